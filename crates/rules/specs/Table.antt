@@ -1,0 +1,60 @@
+-- The table's state, the address of a code in it, and when it grows and contracts: Larson's rules, source document 000. Assumes nothing.
+use Prim.Native.Nat.{ℕ, _+_, _-_, _*_, _/_, _%_}
+use mathlib.Core.Bool.{Bool, cond, _&&_, _||_}
+use lib.Dec.{leb, ltb, eqb}
+
+-- the fewest buckets of a table, and the most
+abbrev pub least : ℕ
+least = 16
+
+abbrev pub top : ℕ
+top = 256
+
+-- cards a bucket: above `upper` the table grows, below `lower` it contracts
+abbrev pub upper : ℕ
+upper = 4
+
+abbrev pub lower : ℕ
+lower = 2
+
+-- the address rule's answer where (maxp, p) is no state
+abbrev pub noAddress : ℕ
+noAddress = 4294967295
+
+-- maxp is one of 16, 32, 64, 128, 256
+unfoldable pub sizeOk : ℕ → Bool
+sizeOk maxp = eqb maxp 16 || eqb maxp 32 || eqb maxp 64 || eqb maxp 128 || eqb maxp 256
+
+-- (maxp, p) is a state of the table, with maxp + p buckets
+unfoldable pub stateOk : ℕ → ℕ → Bool
+stateOk maxp p = sizeOk maxp && (ltb p maxp && leb (maxp + p) top)
+
+-- the bucket of a code: code mod maxp, or, if that is below p, code mod 2 maxp
+unfoldable pub bucketOf : ℕ → ℕ → ℕ → ℕ
+bucketOf code maxp p = cond (ltb (code % maxp) p) (code % (2 * maxp)) (code % maxp)
+
+-- the address rule, for any three numbers
+unfoldable pub addressOf : ℕ → ℕ → ℕ → ℕ
+addressOf code maxp p = cond (stateOk maxp p) (bucketOf code maxp p) noAddress
+
+-- n cards in b buckets are too many: one bucket is split
+unfoldable pub splits : ℕ → ℕ → Bool
+splits n b = ltb (upper * b) n
+
+-- n cards in b buckets are too few: two buckets are joined
+unfoldable pub contracts : ℕ → ℕ → Bool
+contracts n b = ltb n (lower * b) && ltb least b
+
+-- the state with one bucket more: p grows by 1; if p = maxp, maxp doubles and p is 0
+unfoldable pub highMaxp : ℕ → ℕ → ℕ
+highMaxp maxp p = cond (eqb (p + 1) maxp) (2 * maxp) maxp
+
+unfoldable pub highP : ℕ → ℕ → ℕ
+highP maxp p = cond (eqb (p + 1) maxp) 0 (p + 1)
+
+-- the state with one bucket less: p falls by 1; if it was 0, maxp halves and p is the new maxp - 1
+unfoldable pub lowMaxp : ℕ → ℕ → ℕ
+lowMaxp maxp p = cond (eqb p 0) (maxp / 2) maxp
+
+unfoldable pub lowP : ℕ → ℕ → ℕ
+lowP maxp p = cond (eqb p 0) (maxp / 2 - 1) (p - 1)

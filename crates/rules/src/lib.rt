@@ -1,0 +1,95 @@
+// The code of a serial, the address rule and the load rules, below the store. The C host of the
+// reader calls `reader_code` and `reader_address` directly.
+ghost use mathlib.Core.Path.{_≡_};
+ghost use lib.ListN.{take};
+ghost use Rattle.rules.specs.Code.{codeStep, codeOf};
+ghost use Rattle.rules.specs.Table.{stateOk, addressOf, splits, contracts};
+use std::num::wrapping_add_u32;
+
+// The fewest and the most buckets of a table.
+const LEAST: u32 = 16;
+
+const TOP: u32 = 256;
+
+// Cards a bucket: above UPPER the table grows, below LOWER it contracts.
+const UPPER: u64 = 4;
+
+const LOWER: u64 = 2;
+
+// The address where (maxp, p) is no state of the table.
+const NO_ADDRESS: u32 = 4294967295;
+
+// The code with one byte more: 33 times the code by wrapping additions, and the byte added last.
+pub fn code_step(code: u32, byte: u8) -> u32
+    ensures { λ r. ⌜ r ≡ codeStep code byte ⌝ }
+{
+    let c2 = wrapping_add_u32(code, code);
+    let c4 = wrapping_add_u32(c2, c2);
+    let c8 = wrapping_add_u32(c4, c4);
+    let c16 = wrapping_add_u32(c8, c8);
+    let c32 = wrapping_add_u32(c16, c16);
+    let c33 = wrapping_add_u32(c32, code);
+    wrapping_add_u32(c33, byte as u32)
+}
+
+// The code of a byte slice, of any length.
+#[no_mangle]
+pub extern "C" fn reader_code(bytes: &[u8]) -> u32
+    ensures { λ r. ⌜ r ≡ codeOf (now (bytes .entry)) ⌝ }
+{
+    let mut code: u32 = 0;
+    let mut i: usize = 0;
+    while i < bytes.len() {
+        code = code_step(code, bytes[i]);
+        i += 1;
+    }
+    code
+}
+
+// The code of a serial that travels as sixteen bytes and its length; a length past 16 counts as 16.
+pub fn serial_code(serial: [u8; 16], len: usize) -> u32
+    ensures { λ r. ⌜ r ≡ codeOf (take len serial) ⌝ }
+{
+    if len <= 16 {
+        reader_code(&serial[..len])
+    } else {
+        reader_code(&serial)
+    }
+}
+
+// Whether (maxp, p) is a state of the table.
+pub fn state_ok(maxp: u32, p: u32) -> bool
+    ensures { λ r. ⌜ r ≡ stateOk maxp p ⌝ }
+{
+    match maxp {
+        16 | 32 | 64 | 128 | 256 => p < maxp && maxp + p <= TOP,
+        _ => false,
+    }
+}
+
+// The address of a code, or 4294967295 where (maxp, p) is no state of the table.
+#[no_mangle]
+pub extern "C" fn reader_address(code: u32, maxp: u32, p: u32) -> u32
+    ensures { λ r. ⌜ r ≡ addressOf code maxp p ⌝ }
+{
+    if state_ok(maxp, p) {
+        let a = code % maxp;
+        if a < p { code % (2 * maxp) } else { a }
+    } else {
+        NO_ADDRESS
+    }
+}
+
+// Whether n cards in b buckets call for a split.
+pub fn must_split(n: u32, b: u32) -> bool
+    ensures { λ r. ⌜ r ≡ splits n b ⌝ }
+{
+    UPPER * (b as u64) < n as u64
+}
+
+// Whether n cards in b buckets call for a contraction.
+pub fn must_contract(n: u32, b: u32) -> bool
+    ensures { λ r. ⌜ r ≡ contracts n b ⌝ }
+{
+    (n as u64) < LOWER * (b as u64) && LEAST < b
+}
