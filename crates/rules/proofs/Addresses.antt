@@ -9,6 +9,7 @@ use lib.Arith.{mod-mul}
 use lib.Dec.{ltb, eqb}
 use borrow.Author.Tests.{ltb-true, ltb-false, lt-ltb, le-ltb, eqb-true, eqb-false, eq-eqb, ne-eqb}
 use Rattle.rules.specs.Table.{stateOk, bucketOf, addressOf, highMaxp, highP, lowMaxp, lowP}
+use Rattle.rules.proofs.Tests.{by-cases, eq?}
 use Rattle.rules.proofs.States.{State, state-of, state-ok, size-low, size-double, size-half}
 
 -- the address rule where the state is good, and where it is not
@@ -40,11 +41,10 @@ halves c m h = go (c / m % 2) (mod-lt (c / m) (omega arith)) (mod-mul c {m = 2} 
 -- an address is one of the buckets
 pub bucket-below : (c m p : ℕ) → 0 < m → bucketOf c m p < m + p
 unfolding bucketOf
-bucket-below c m p h = go (ltb (c % m) p) refl
-  where
-    go : (b : Bool) → ltb (c % m) p ≡ b → cond b (c % (2 * m)) (c % m) < m + p
-    go true e = ⊎-elim (λ q. omega (arith, ltb-true)) (λ q. omega (arith, ltb-true)) (halves c m h)
-    go false e = omega (arith, mod-lt c h)
+bucket-below c m p h =
+    by-cases (ltb (c % m) p)
+    (λ e. rw e (⊎-elim (λ q. omega (arith, ltb-true)) (λ q. omega (arith, ltb-true)) (halves c m h)))
+    (λ e. rw e (omega (arith, mod-lt c h)))
 
 pub address-below : (c m p : ℕ) → stateOk m p ≡ true → addressOf c m p < m + p
 address-below c m p h = rw (address-good c m p h) (bucket-below c m p (omega (arith, size-low (state-of m p h .size))))
@@ -83,20 +83,12 @@ pub grown-over : (m p : ℕ) → p + 1 ≡ m → (highMaxp m p ≡ 2 * m) × (hi
 unfolding highMaxp highP
 grown-over m p e = (simp (eq-eqb _ _ e), simp (eq-eqb _ _ e))
 
--- two numbers are equal, or not
-equal : (a b : ℕ) → (a ≡ b) ⊎ (a ≡ b → ⊥)
-equal a b = go (eqb a b) refl
-  where
-    go : (t : Bool) → eqb a b ≡ t → (a ≡ b) ⊎ (a ≡ b → ⊥)
-    go true e = inl (eqb-true _ _ e)
-    go false e = inr (eqb-false _ _ e)
-
 -- a split gives a good state with one bucket more
 pub grow-count : (m p : ℕ) → highMaxp m p + highP m p ≡ m + p + 1
-grow-count m p = ⊎-elim (λ e. omega (arith, grown-over m p e)) (λ n. omega (arith, grown-on m p n)) (equal (p + 1) m)
+grow-count m p = ⊎-elim (λ e. omega (arith, grown-over m p e)) (λ n. omega (arith, grown-on m p n)) (eq? (p + 1) m)
 
 pub grow-ok : (m p : ℕ) → stateOk m p ≡ true → m + p < 256 → stateOk (highMaxp m p) (highP m p) ≡ true
-grow-ok m p h room = state-ok (go (equal (p + 1) m))
+grow-ok m p h room = state-ok (go (eq? (p + 1) m))
   where
     g : State m p
     g = state-of m p h
@@ -110,7 +102,7 @@ grow-ok m p h room = state-ok (go (equal (p + 1) m))
 
 -- the addresses after a split are those of p + 1
 pub bucket-grown : (c m p : ℕ) → 0 < m → bucketOf c (highMaxp m p) (highP m p) ≡ bucketOf c m (p + 1)
-bucket-grown c m p h = go (equal (p + 1) m)
+bucket-grown c m p h = go (eq? (p + 1) m)
   where
     go : (p + 1 ≡ m) ⊎ (p + 1 ≡ m → ⊥) → bucketOf c (highMaxp m p) (highP m p) ≡ bucketOf c m (p + 1)
     go (inl e) = rw (grown-over m p e .0, grown-over m p e .1, e) (bucket-doubled c m h)
@@ -140,7 +132,7 @@ module _ (c m p : ℕ) (ok : stateOk m p ≡ true) (room : m + p < 256) where
 
   -- the same from the state after it: a card of the new bucket was in bucket p, and every other card is where it was
   same : (addressOf c m p ≡ p) ⊎ (addressOf c m p ≡ p → ⊥)
-  same = equal (addressOf c m p) p
+  same = eq? (addressOf c m p) p
 
   pub grow-new : addressOf c (highMaxp m p) (highP m p) ≡ m + p → addressOf c m p ≡ p
   grow-new e = ⊎-elim (λ q. q) (λ n. absurd (omega (arith, grow-stays n, address-below c m p ok))) same
@@ -160,7 +152,7 @@ shrunk-over m p e = (simp (eq-eqb _ _ e), simp (eq-eqb _ _ e))
 -- a contraction gives a good state with one bucket less, of which a split makes the state again
 module _ (m p : ℕ) (ok : stateOk m p ≡ true) (more : 16 < m + p) where
   pub shrink-ok : stateOk (lowMaxp m p) (lowP m p) ≡ true
-  shrink-ok = state-ok (go (equal p 0))
+  shrink-ok = state-ok (go (eq? p 0))
     where
       g : State m p
       g = state-of m p ok
@@ -175,7 +167,7 @@ module _ (m p : ℕ) (ok : stateOk m p ≡ true) (more : 16 < m + p) where
           (record { size = g .size; below = omega (arith, g .below); room = omega (arith, g .room) })
 
   pub shrink-grow : (highMaxp (lowMaxp m p) (lowP m p) ≡ m) × (highP (lowMaxp m p) (lowP m p) ≡ p)
-  shrink-grow = go (equal p 0)
+  shrink-grow = go (eq? p 0)
     where
       g : State m p
       g = state-of m p ok
@@ -206,7 +198,7 @@ module _ (m p : ℕ) (ok : stateOk m p ≡ true) (more : 16 < m + p) where
 
 -- a contraction takes a split back
 pub grow-shrink : (m p : ℕ) → 0 < m → (lowMaxp (highMaxp m p) (highP m p) ≡ m) × (lowP (highMaxp m p) (highP m p) ≡ p)
-grow-shrink m p h = go (equal (p + 1) m)
+grow-shrink m p h = go (eq? (p + 1) m)
   where
     go : (p + 1 ≡ m) ⊎ (p + 1 ≡ m → ⊥) → (lowMaxp (highMaxp m p) (highP m p) ≡ m) × (lowP (highMaxp m p) (highP m p) ≡ p)
     go (inl e) =

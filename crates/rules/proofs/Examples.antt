@@ -9,7 +9,7 @@ use borrow.Author.Tests.{eqb-true, not-true}
 use Rattle.rules.specs.Code.{codeFrom, codeOf}
 use Rattle.rules.specs.Table.{sizeOk, stateOk, bucketOf, addressOf, splits, contracts}
 use Rattle.rules.specs.Examples.{Example, codeIs, addressIs, noState, splitFrom, contractsFrom, Says, holds, allHold, marked}
-use Rattle.rules.proofs.States.{both}
+use Rattle.rules.proofs.Tests.{both}
 use Rattle.rules.proofs.Addresses.{address-bad}
 
 -- the claim

@@ -7,6 +7,7 @@ use native.Mathlib.Omega.{arith}
 use lib.Dec.{eqb}
 use borrow.Author.Tests.{eqb-true, ltb-true, leb-true, lt-ltb, le-leb}
 use Rattle.rules.specs.Table.{sizeOk, stateOk}
+use Rattle.rules.proofs.Tests.{by-cases, both}
 
 -- the five sizes
 pub data Size : ℕ → Type 0 where
@@ -57,11 +58,7 @@ unfolding sizeOk
 ok-size m h = five m _ _ _ _ _ refl refl refl refl refl h
 
 pub no-size : (m : ℕ) → (Size m → ⊥) → sizeOk m ≡ false
-no-size m f = go (sizeOk m) refl
-  where
-    go : (b : Bool) → sizeOk m ≡ b → sizeOk m ≡ false
-    go true e = absurd (f (ok-size m e))
-    go false e = e
+no-size m f = by-cases (sizeOk m) (λ e. absurd (f (ok-size m e))) (λ e. e)
 
 -- the bounds of a size, and its double and half
 pub size-low : {m : ℕ} → Size m → 16 ≤ m
@@ -97,11 +94,6 @@ pub record State (m p : ℕ) : Type 0 where
   pub size : Size m
   pub below : p < m
   pub room : m + p ≤ 256
-
--- a test of two parts
-pub both : (a b : Bool) → (a && b) ≡ true → (a ≡ true) × (b ≡ true)
-both true b e = (refl, e)
-both false b e = absurd (false≢true e)
 
 pub state-of : (m p : ℕ) → stateOk m p ≡ true → State m p
 unfolding stateOk

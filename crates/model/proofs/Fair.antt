@@ -1,0 +1,183 @@
+-- A fair store and a good one, as facts with names; `fair` and `good` decide them (`fair-is`, `is-fair`, `good-is`, `is-good`). What is
+-- counted of a store is a sum over its cards: `card-cells`, `card-count`, `fault-cells`, `fault-count`.
+use Prim.Native.Nat.{ℕ, zero, suc, _+_, _*_, _≤_, _<_}
+use mathlib.Core.Path.{_≡_, refl, sym, ap, _∙_}
+use mathlib.Core.Logic.{_⊎_, inl, inr, ⊎-elim, _↔_}
+use mathlib.Core.List.{List, [], _∷_, _++_, map}
+use mathlib.Core.Bool.{Bool, true, false, not, _&&_, _||_}
+use native.Mathlib.Omega.{arith}
+use lib.Dec.{leb, ltb, eqb}
+use lib.ListN.{length, getD, length-append, length-map, List·getD-eq-default}
+use borrow.Author.Tests.{eq-eqb, eqb-true, eqb-false, ltb-true, ltb-false, leb-true, le-leb}
+use Rattle.rules.specs.Table.{least, upper, lower, stateOk}
+use Rattle.rules.proofs.Tests.{by-cases, both, all-of, either}
+use Rattle.rules.proofs.States.{State, state-of, size-low}
+use Rattle.model.specs.Lists.{between, all, same, keep, join, from, distinct, total}
+use Rattle.model.specs.Model.{Fault, Card, Store, cards, histories, held, faultsHeld, size, bucket, is, cellsOf, faultCellsOf}
+use Rattle.model.specs.Layout.{Cell, atsOf, cardWidth, faultWidth, mostCards, mostFaults, cardCell, faultCell, freeCell, cardChains, faultChains, eachOnce, limitsOk, goodCard, goodBuckets, cellsOk, serialsOk, loadOk, fair, good}
+use Rattle.model.proofs.Lists.{between-is, same-is, all-from, from-all}
+use Rattle.model.proofs.Sums.{bit, count, total-append, total-map, total-flat, total-maps, length-total, distinct-total, total-distinct}
+use Rattle.model.proofs.Each.{many, Each, each-is, is-each}
+
+-- what is counted of a card: itself, its faults, whether it stands in a cell, its faults in a cell, whether it has a serial
+abbrev pub one : Card → ℕ
+one c = 1
+
+abbrev pub filings : Card → ℕ
+filings c = length (c .faults)
+
+abbrev pub inCell : ℕ → Card → ℕ
+inCell x c = bit (eqb x (c .at))
+
+abbrev pub faultIn : ℕ → Card → ℕ
+faultIn x c = count x (faultCellsOf (c .faults))
+
+abbrev pub named : List ℕ → Card → ℕ
+named y c = bit (is y c)
+
+-- all that holds in the middle of a call too: everything but the load bounds
+pub record Fair (s : Store) : Type 0 where
+  pub limits : limitsOk (s .limit) (s .faultLimit) ≡ true
+  pub state : stateOk (s .maxp) (s .p) ≡ true
+  pub number : length (s .buckets) ≡ size s
+  pub cells : Each (s .limit) (join (cardChains s))
+  pub faultCells : Each (s .faultLimit) (join (faultChains s))
+  pub addressed : (b : ℕ) → all (goodCard (s .maxp) (s .p) b) (bucket s b) ≡ true
+  pub different : (y : List ℕ) → total (named y) (cards s) ≤ 1
+
+pub record Good (s : Store) : Type 0 where
+  pub fair : Fair s
+  pub high : held s ≤ upper * size s
+  pub low : least < size s → lower * size s ≤ held s
+
+-- the limits as orders of numbers
+pub record Limits (c f : ℕ) : Type 0 where
+  pub some : 1 ≤ c
+  pub most : c ≤ mostCards
+  pub someFaults : 1 ≤ f
+  pub mostFaults : f ≤ mostFaults
+
+pub limits-of : (c f : ℕ) → limitsOk c f ≡ true → Limits c f
+unfolding limitsOk
+limits-of c f e =
+    let h = both (between 1 mostCards c) (between 1 mostFaults f) e in
+    let a = between-is 1 mostCards c .0 (h .0) in
+    let b = between-is 1 mostFaults f .0 (h .1) in
+    record { some = a .0; most = a .1; someFaults = b .0; mostFaults = b .1 }
+
+-- the cells of a part as sums over the cards
+
+pub card-cells : (s : Store) (x : ℕ) → many x (join (cardChains s)) ≡ count x (s .free) + total (inCell x) (cards s)
+unfolding freeCell cardCell
+card-cells s x =
+    total-append (λ c. bit (eqb x (c .at))) (map (freeCell cardWidth) (s .free)) (join (map (map cardCell) (s .buckets)))
+    ∙ omega (arith, total-map (λ (c : Cell). bit (eqb x (c .at))) (freeCell cardWidth) (s .free), total-maps (λ (c : Cell). bit (eqb x (c .at))) cardCell (s .buckets))
+
+pub card-count : (s : Store) → length (join (cardChains s)) ≡ length (s .free) + held s
+card-count s =
+    length-total (join (cardChains s))
+    ∙ total-append (λ c. 1) (map (freeCell cardWidth) (s .free)) (join (map (map cardCell) (s .buckets)))
+    ∙ omega (arith, total-map (λ (c : Cell). 1) (freeCell cardWidth) (s .free), total-maps (λ (c : Cell). 1) cardCell (s .buckets), length-total (s .free), length-total (cards s))
+
+pub fault-cells : (s : Store) (x : ℕ) → many x (join (faultChains s)) ≡ count x (s .freeFaults) + total (faultIn x) (cards s)
+unfolding freeCell faultCell
+fault-cells s x =
+    total-append (λ c. bit (eqb x (c .at))) (map (freeCell faultWidth) (s .freeFaults)) (join (map (λ c. map faultCell (c .faults)) (cards s)))
+    ∙ omega (arith, total-map (λ (c : Cell). bit (eqb x (c .at))) (freeCell faultWidth) (s .freeFaults), total-flat (λ (c : Cell). bit (eqb x (c .at))) (λ (c : Card). map faultCell (c .faults)) (cards s), go (cards s))
+  where
+    go : (cs : List Card) → total (λ (c : Card). total (λ (c : Cell). bit (eqb x (c .at))) (map faultCell (c .faults))) cs ≡ total (faultIn x) cs
+    go [] = refl
+    go (c ∷ cs) =
+        omega (arith, go cs, total-map (λ (c : Cell). bit (eqb x (c .at))) faultCell (c .faults), total-map (λ (y : ℕ). bit (eqb x y)) (λ (f : Fault). f .at) (c .faults))
+
+pub faults-total : (cs : List Card) → length (histories cs) ≡ total filings cs
+faults-total [] = refl
+faults-total (c ∷ cs) = rw (length-append (c .faults) (histories cs), faults-total cs)
+
+pub fault-count : (s : Store) → length (join (faultChains s)) ≡ length (s .freeFaults) + faultsHeld s
+fault-count s =
+    length-total (join (faultChains s))
+    ∙ total-append (λ c. 1) (map (freeCell faultWidth) (s .freeFaults)) (join (map (λ c. map faultCell (c .faults)) (cards s)))
+    ∙ omega (arith, total-map (λ (c : Cell). 1) (freeCell faultWidth) (s .freeFaults), total-flat (λ (c : Cell). 1) (λ (c : Card). map faultCell (c .faults)) (cards s), go (cards s), length-total (s .freeFaults), faults-total (cards s))
+  where
+    go : (cs : List Card) → total (λ (c : Card). total (λ (c : Cell). 1) (map faultCell (c .faults))) cs ≡ total filings cs
+    go [] = refl
+    go (c ∷ cs) = omega (arith, go cs, total-map (λ (c : Cell). 1) faultCell (c .faults), length-total (c .faults))
+
+-- how many cards have a serial
+pub times-total : (y : List ℕ) (cs : List Card) → length (keep (is y) cs) ≡ total (named y) cs
+times-total y [] = refl
+times-total y (c ∷ cs) = let e = times-total y cs in by-cases (is y c) (λ k. rw k (omega arith)) (λ k. rw k (omega arith))
+
+serials-named : (y : List ℕ) (cs : List Card) → total (λ z. bit (same y z)) (map (λ (c : Card). c .serial) cs) ≡ total (named y) cs
+serials-named y cs = total-map (λ (z : List ℕ). bit (same y z)) (λ (c : Card). c .serial) cs
+
+-- the tests and the facts, both ways
+
+pub fair-is : (s : Store) → fair s ≡ true → Fair s
+unfolding fair cellsOk goodBuckets serialsOk
+fair-is s t =
+    let a = both (limitsOk (s .limit) (s .faultLimit)) _ t in
+    let b = both (stateOk (s .maxp) (s .p)) _ (a .1) in
+    let c = both (eqb (length (s .buckets)) (size s)) _ (b .1) in
+    let d = both (cellsOk s) _ (c .1) in
+    let e = both (eachOnce (s .limit) (atsOf (join (cardChains s)))) _ (d .0) in
+    let f = both (goodBuckets s) (serialsOk s) (d .1) in
+    let n = eqb-true (length (s .buckets)) (size s) (c .0) in
+    record {
+      limits = a .0;
+      state = b .0;
+      number = n;
+      cells = each-is (s .limit) (join (cardChains s)) (e .0);
+      faultCells = each-is (s .faultLimit) (join (faultChains s)) (e .1);
+      addressed = home n (f .0);
+      different = λ y. omega (arith, serials-named y (cards s), distinct-total same same-is (map (λ (c : Card). c .serial) (cards s)) (f .1) y);
+    }
+  where
+    -- past the last bucket there is no card
+    home : length (s .buckets) ≡ size s → goodBuckets s ≡ true → (b : ℕ) → all (goodCard (s .maxp) (s .p) b) (bucket s b) ≡ true
+    home n t b =
+        by-cases (ltb b (size s))
+        (λ k. all-from (λ b. all (goodCard (s .maxp) (s .p) b) (bucket s b)) 0 (size s) t b (omega arith) (omega (arith, ltb-true b (size s) k)))
+        (λ k. rw (List·getD-eq-default (s .buckets) [] {n = b} (omega (arith, ltb-false b (size s) k))))
+
+pub is-fair : (s : Store) → Fair s → fair s ≡ true
+unfolding fair cellsOk goodBuckets serialsOk
+is-fair s r =
+    all-of (r .limits)
+    (all-of (r .state)
+    (all-of (eq-eqb (length (s .buckets)) (size s) (r .number))
+    (all-of (all-of (is-each (s .limit) (join (cardChains s)) (r .cells)) (is-each (s .faultLimit) (join (faultChains s)) (r .faultCells)))
+    (all-of (from-all (λ b. all (goodCard (s .maxp) (s .p) b) (bucket s b)) 0 (size s) (λ b h k. r .addressed b))
+    (total-distinct same same-is (map (λ (c : Card). c .serial) (cards s)) (λ y. omega (arith, serials-named y (cards s), r .different y)))))))
+
+-- the least number of buckets
+pub size-least : (s : Store) → Fair s → least ≤ size s
+size-least s r = omega (arith, size-low (state-of (s .maxp) (s .p) (r .state) .size))
+
+pub load-is : (s : Store) → loadOk s ≡ true → (held s ≤ upper * size s) × (least < size s → lower * size s ≤ held s)
+unfolding loadOk
+load-is s t =
+    let h = both (leb (held s) (upper * size s)) (eqb (size s) least || leb (lower * size s) (held s)) t in (
+      leb-true (held s) (upper * size s) (h .0),
+      λ l. ⊎-elim (λ e. absurd (omega (arith, eqb-true (size s) least e))) (λ e. leb-true (lower * size s) (held s) e) (either (eqb (size s) least) (leb (lower * size s) (held s)) (h .1)),
+    )
+
+pub is-load : (s : Store) → Good s → loadOk s ≡ true
+unfolding loadOk
+is-load s g =
+    all-of (le-leb (held s) (upper * size s) (g .high))
+    (by-cases (eqb (size s) least)
+    (λ e. rw e)
+    (λ e. rw e (le-leb (lower * size s) (held s) (g .low (omega (arith, size-least s (g .fair), eqb-false (size s) least e))))))
+
+pub good-is : (s : Store) → good s ≡ true → Good s
+unfolding good
+good-is s t =
+    let h = both (loadOk s) (fair s) t in
+    let l = load-is s (h .0) in
+    record { fair = fair-is s (h .1); high = l .0; low = l .1 }
+
+pub is-good : (s : Store) → Good s → good s ≡ true
+unfolding good
+is-good s g = all-of (is-load s g) (is-fair s (g .fair))

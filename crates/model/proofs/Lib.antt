@@ -1,0 +1,11 @@
+-- Laws that know nothing of cards
+pub mod Lists
+pub mod Sums
+pub mod Each
+pub mod Places
+pub mod Chains
+pub mod Part
+pub mod Writes
+pub mod Lend
+-- The store as facts
+pub mod Fair

@@ -1,0 +1,190 @@
+-- The job: lines of text run against a store.
+use Prim.Native.Nat.{ℕ, zero, suc, _+_, _-_, _*_, _/_, _%_, _^_, min}
+use mathlib.Core.List.{List, [], _∷_, _++_, map}
+use mathlib.Core.Bool.{Bool, true, false, not, _&&_, _||_, cond}
+use lib.Dec.{leb, ltb, eqb}
+use lib.ListN.{length, take, drop, getD, replicate}
+use Rattle.model.specs.Lists.{between, all, same}
+use Rattle.model.specs.Model.{Store, held, size, placed, removed}
+use Rattle.model.specs.Layout.{encode, decode, sound}
+use Rattle.model.specs.Calls.{Answer, Step, refused, cleaned, scratchNeed, stays, enterStep, fileStep, showStep, withdrawStep}
+
+-- the fields between separators; there is always one
+unfoldable pub onto : ℕ → List (List ℕ) → List (List ℕ)
+onto b [] = (b ∷ []) ∷ []
+onto b (f ∷ fs) = (b ∷ f) ∷ fs
+
+unfoldable pub fields : ℕ → List ℕ → List (List ℕ)
+fields sep [] = [] ∷ []
+fields sep (b ∷ bs) = cond (eqb b sep) ([] ∷ fields sep bs) (onto b (fields sep bs))
+
+-- what LF ends are lines; a last piece counts if it is not empty
+unfoldable pub dropEmptyLast : List (List ℕ) → List (List ℕ)
+dropEmptyLast [] = []
+dropEmptyLast ([] ∷ []) = []
+dropEmptyLast ((b ∷ bs) ∷ []) = (b ∷ bs) ∷ []
+dropEmptyLast (l ∷ m ∷ ls) = l ∷ dropEmptyLast (m ∷ ls)
+
+unfoldable pub linesOf : List ℕ → List (List ℕ)
+linesOf text = dropEmptyLast (fields 10 text)
+
+unfoldable pub isNumber : List ℕ → Bool
+isNumber f = between 1 9 (length f) && all (between 48 57) f
+
+unfoldable pub valueFrom : ℕ → List ℕ → ℕ
+valueFrom v [] = v
+valueFrom v (d ∷ ds) = valueFrom (10 * v + (d - 48)) ds
+
+-- a serial as a field, made sixteen bytes; its length is kept, so an empty one or one over 16 is refused by 4
+unfoldable pub padded : List ℕ → List ℕ
+padded f = take 16 (f ++ replicate 16 0)
+
+pub data Line : Type 0 where
+  bad : Line
+  enter : List ℕ → Line
+  show : List ℕ → Line
+  withdraw : List ℕ → Line
+  file : List ℕ → ℕ → ℕ → Line
+
+unfoldable pub two : List ℕ → List ℕ → Line
+two op serial =
+    cond (same op (69 ∷ [])) (enter serial) (cond (same op (83 ∷ [])) (show serial) (cond (same op (87 ∷ [])) (withdraw serial) bad))
+
+unfoldable pub four : List ℕ → List ℕ → List ℕ → List ℕ → Line
+four op serial day code =
+    cond (same op (70 ∷ []) && (isNumber day && isNumber code)) (file serial (valueFrom 0 day) (valueFrom 0 code)) bad
+
+unfoldable pub fromFields : List (List ℕ) → Line
+fromFields [] = bad
+fromFields (a ∷ []) = bad
+fromFields (a ∷ b ∷ []) = two a b
+fromFields (a ∷ b ∷ c ∷ []) = bad
+fromFields (a ∷ b ∷ c ∷ d ∷ []) = four a b c d
+fromFields (a ∷ b ∷ c ∷ d ∷ e ∷ fs) = bad
+
+unfoldable pub lineOf : List ℕ → Line
+lineOf l = cond (ltb 64 (length l)) bad (fromFields (fields 32 l))
+
+-- the room that a line is given: never too little
+unfoldable pub enough : List ℕ
+enough = replicate 4096 0
+
+unfoldable pub stepOf : Store → Line → Step
+stepOf s bad = stays (refused 12) s []
+stepOf s (enter f) = enterStep s (padded f) (length f)
+stepOf s (show f) = showStep s (padded f) (length f) enough
+stepOf s (withdraw f) = withdrawStep s (padded f) (length f) enough
+stepOf s (file f day code) = fileStep s (padded f) (length f) day code
+
+-- decimal digits of a number below 10 ^ 20
+unfoldable pub digits : ℕ → ℕ → List ℕ → List ℕ
+digits zero n acc = acc
+digits (suc fuel) n acc = elim (ltb n 10) [ true ↦ (48 + n) ∷ acc | false ↦ digits fuel (n / 10) ((48 + n % 10) ∷ acc) ]
+
+unfoldable pub decimal : ℕ → List ℕ
+decimal n = digits 20 n []
+
+unfoldable pub pairText : ℕ → List ℕ → List ℕ
+pairText zero room = []
+pairText (suc k) [] = []
+pairText (suc k) (d ∷ []) = []
+pairText (suc k) (d ∷ c ∷ rest) = 32 ∷ (decimal d ++ (58 ∷ (decimal c ++ pairText k rest)))
+
+-- pairs are written behind a done show or withdraw, whose room holds them
+unfoldable pub listed : Line → Answer → ℕ
+listed bad a = 0
+listed (enter f) a = 0
+listed (show f) a = cond (eqb (a .number) 0) (a .faults) 0
+listed (withdraw f) a = cond (eqb (a .number) 0) (a .faults) 0
+listed (file f day code) a = 0
+
+unfoldable pub answerText : Line → Step → List ℕ
+answerText l r =
+    let a = r .answer in
+    decimal (a .number) ++ (32 ∷ (decimal (a .comparisons) ++ (32 ∷ (decimal (a .scanned) ++ (32 ∷ (decimal (a .faults) ++ (pairText (listed l a) (r .room) ++ (10 ∷ []))))))))
+
+pub record Tally : Type 0 where
+  pub entries : ℕ
+  pub withdrawals : ℕ
+  pub filings : ℕ
+  pub splits : ℕ
+  pub contractions : ℕ
+  pub comparisons : ℕ
+
+unfoldable pub top : ℕ
+top = 18446744073709551615
+
+unfoldable pub plus : ℕ → ℕ → ℕ
+plus a b = min top (a + b)
+
+unfoldable pub one : Bool → ℕ
+one b = cond b 1 0
+
+unfoldable pub kind : Line → ℕ
+kind bad = 0
+kind (enter f) = 1
+kind (withdraw f) = 2
+kind (file f day code) = 3
+kind (show f) = 4
+
+unfoldable pub counted : Tally → Store → Line → Step → Tally
+counted t s l r =
+    let done = eqb (r .answer .number) 0 in
+    record {
+      entries = plus (t .entries) (one (done && eqb (kind l) 1));
+      withdrawals = plus (t .withdrawals) (one (done && eqb (kind l) 2));
+      filings = plus (t .filings) (one (done && eqb (kind l) 3));
+      splits = plus (t .splits) (one (ltb (size s) (size (r .store))));
+      contractions = plus (t .contractions) (one (ltb (size (r .store)) (size s)));
+      comparisons = plus (t .comparisons) (r .answer .comparisons);
+    }
+
+-- a job under way: what is left of it by line
+pub record Run : Type 0 where
+  pub number : ℕ
+  pub lines : ℕ
+  pub text : List ℕ
+  pub store : Store
+  pub tally : Tally
+
+unfoldable pub runLines : List (List ℕ) → ℕ → ℕ → List ℕ → Store → Tally → Run
+runLines [] room done text s t = record { number = 0; lines = done; text = text; store = s; tally = t }
+runLines (x ∷ xs) room done text s t =
+    let l = lineOf x in
+    let r = stepOf s l in
+    let answer = answerText l r in
+    elim (ltb room (length text + length answer)) [
+      | true ↦ record { number = 10; lines = done; text = text; store = s; tally = t }
+      | false ↦ runLines xs room (suc done) (text ++ answer) (r .store) (counted t s l r)
+    ]
+
+pub record Finished : Type 0 where
+  pub number : ℕ
+  pub lines : ℕ
+  pub bytes : ℕ
+  pub words : List ℕ
+  pub out : List ℕ
+  pub scratch : List ℕ
+  pub tally : Tally
+
+unfoldable pub turnedAway : ℕ → List ℕ → List ℕ → List ℕ → Tally → Finished
+turnedAway n w out scratch t = record { number = n; lines = 0; bytes = 0; words = w; out = out; scratch = scratch; tally = t }
+
+unfoldable pub job : List ℕ → List ℕ → List ℕ → List ℕ → Tally → Finished
+job w scratch text out t =
+    cond (ltb (length scratch) scratchNeed) (turnedAway 11 w out scratch t)
+    (cond (ltb 16384 (length text)) (turnedAway 13 w out (cleaned scratch) t)
+    (elim (sound w) [
+      | false ↦ turnedAway 3 w out (cleaned scratch) t
+      | true ↦
+          let r = runLines (linesOf text) (length out) 0 [] (decode w) t in
+          record {
+            number = r .number;
+            lines = r .lines;
+            bytes = length (r .text);
+            words = encode (r .store);
+            out = r .text ++ drop (length (r .text)) out;
+            scratch = cleaned scratch;
+            tally = r .tally;
+          }
+    ]))

@@ -1,0 +1,231 @@
+-- The words that a store stands in: `encode` writes them, `decode` reads them, and words are sound where they are the
+-- encoding of a good store.
+use Prim.Native.Nat.{ℕ, zero, suc, _+_, _-_, _*_, _/_, _%_, _^_}
+use mathlib.Core.List.{List, [], _∷_, _++_, map}
+use mathlib.Core.Bool.{Bool, true, false, _&&_, _||_, cond}
+use lib.Dec.{leb, ltb, eqb}
+use lib.ListN.{length, take, drop, getD, replicate}
+use Rattle.rules.specs.Code.{codeOf}
+use Rattle.rules.specs.Table.{least, top, upper, lower, stateOk, addressOf}
+use Rattle.model.specs.Lists.{between, all, same, join, from, distinct}
+use Rattle.model.specs.Serial.{serialOk, validFault}
+use Rattle.model.specs.Model.{Fault, Card, Store, cards, histories, held, faultsHeld, size, bucket, cellsOf, faultCellsOf}
+
+-- counts and offsets
+
+abbrev pub format : ℕ
+format = 1
+
+-- the highest card limit and fault limit
+abbrev pub mostCards : ℕ
+mostCards = 1024
+
+abbrev pub mostFaults : ℕ
+mostFaults = 2048
+
+-- where the directory and the segments begin, and the buckets of a segment
+abbrev pub directoryAt : ℕ
+directoryAt = 16
+
+abbrev pub segmentsAt : ℕ
+segmentsAt = 32
+
+abbrev pub segmentSize : ℕ
+segmentSize = 16
+
+-- the words of a card cell and of a fault cell, and where cell 1 of each begins
+abbrev pub cardWidth : ℕ
+cardWidth = 9
+
+abbrev pub faultWidth : ℕ
+faultWidth = 3
+
+unfoldable pub cardsAt : ℕ
+cardsAt = segmentsAt + top
+
+unfoldable pub faultsAt : ℕ → ℕ
+faultsAt c = cardsAt + cardWidth * c
+
+-- the whole length
+unfoldable pub lengthFor : ℕ → ℕ → ℕ
+lengthFor c f = faultsAt c + faultWidth * f
+
+-- C is 1 to 1,024, F is 1 to 2,048
+unfoldable pub limitsOk : ℕ → ℕ → Bool
+limitsOk c f = between 1 mostCards c && between 1 mostFaults f
+
+-- cells and chains
+
+-- a cell's number and its words: without the next word where it stands alone, with it where it stands in a chain
+pub record Cell : Type 0 where
+  pub at : ℕ
+  pub words : List ℕ
+
+abbrev pub atsOf : List Cell → List ℕ
+atsOf cs = map (λ c. c .at) cs
+
+-- the number of the first cell, or t
+abbrev pub headOr : ℕ → List Cell → ℕ
+headOr t [] = t
+headOr t (c ∷ cs) = c .at
+
+-- each cell of a chain has the next one's number before its own words, the last one t
+abbrev pub chained : ℕ → List Cell → List Cell
+chained t [] = []
+chained t (c ∷ cs) = record { at = c .at; words = headOr t cs ∷ c .words } ∷ chained t cs
+
+-- where word k of cell i stands
+unfoldable pub cellAt : ℕ → ℕ → ℕ → ℕ → ℕ
+cellAt base width i k = base + width * (i - 1) + k
+
+-- writing
+
+abbrev pub first : List ℕ → ℕ
+first l = getD l 0 0
+
+unfoldable pub last : List ℕ → ℕ
+last [] = 0
+last (x ∷ []) = x
+last (x ∷ y ∷ l) = last (y ∷ l)
+
+-- four bytes of a list from i on, the first highest; 0 past its end
+unfoldable pub packed : List ℕ → ℕ → ℕ
+packed bs i = ((getD bs i 0 * 256 + getD bs (i + 1) 0) * 256 + getD bs (i + 2) 0) * 256 + getD bs (i + 3) 0
+
+-- serial length, four words of serial, first fault, last fault, fault count
+unfoldable pub cardCell : Card → Cell
+cardCell c =
+    let s = c .serial in
+    let fs = faultCellsOf (c .faults) in
+    record { at = c .at; words = length s ∷ packed s 0 ∷ packed s 4 ∷ packed s 8 ∷ packed s 12 ∷ first fs ∷ last fs ∷ length fs ∷ [] }
+
+-- day, code
+unfoldable pub faultCell : Fault → Cell
+faultCell f = record { at = f .at; words = f .day ∷ f .code ∷ [] }
+
+-- a free cell is zero but for its next word
+unfoldable pub freeCell : ℕ → ℕ → Cell
+freeCell width i = record { at = i; words = replicate (width - 1) 0 }
+
+-- the chains of a part: the free one first, then the buckets; the free one first, then the histories
+abbrev pub cardChains : Store → List (List Cell)
+cardChains s = map (freeCell cardWidth) (s .free) ∷ map (map cardCell) (s .buckets)
+
+abbrev pub faultChains : Store → List (List Cell)
+faultChains s = map (freeCell faultWidth) (s .freeFaults) ∷ map (λ c. map faultCell (c .faults)) (cards s)
+
+abbrev pub wordsOf : List Cell → ℕ → List ℕ
+wordsOf [] i = []
+wordsOf (c ∷ cs) i = cond (eqb (c .at) i) (c .words) (wordsOf cs i)
+
+-- the words of cells 1 to n, one behind another
+unfoldable pub part : List (List Cell) → ℕ → List ℕ
+part chains n = join (map (wordsOf (join (map (chained 0) chains))) (from 1 n))
+
+unfoldable pub header : Store → List ℕ
+header s =
+    format ∷ s .limit ∷ s .faultLimit ∷ s .maxp ∷ s .p ∷ held s ∷ faultsHeld s ∷ first (s .free) ∷ first (s .freeFaults)
+    ∷ directoryAt ∷ segmentsAt ∷ cardsAt ∷ faultsAt (s .limit) ∷ lengthFor (s .limit) (s .faultLimit) ∷ 0 ∷ 0 ∷ []
+
+-- entry k is where segment k begins if it is in use, else 0
+unfoldable pub directory : Store → List ℕ
+directory s = map (λ k. cond (ltb (segmentSize * k) (size s)) (segmentsAt + segmentSize * k) 0) (from 0 (top / segmentSize))
+
+-- a word is the chain's first cell, or 0
+unfoldable pub segments : Store → List ℕ
+segments s = map (λ b. first (cellsOf b)) (s .buckets) ++ replicate (top - size s) 0
+
+-- the words before the cells
+unfoldable pub front : Store → List ℕ
+front s = header s ++ (directory s ++ segments s)
+
+unfoldable pub encode : Store → List ℕ
+encode s = front s ++ (part (cardChains s) (s .limit) ++ part (faultChains s) (s .faultLimit))
+
+-- reading
+
+-- the cells from c on by their next words, at most fuel of them
+unfoldable pub follow : ℕ → (ℕ → ℕ) → ℕ → List ℕ
+follow zero next c = []
+follow (suc fuel) next c =
+    let rest = c ∷ follow fuel next (next c) in
+    cond (eqb c 0) [] rest
+
+-- the four bytes of a word
+unfoldable pub bytesOf : ℕ → List ℕ
+bytesOf w = w / 2 ^ 24 ∷ w / 2 ^ 16 % 256 ∷ w / 2 ^ 8 % 256 ∷ w % 256 ∷ []
+
+unfoldable pub cardWord : List ℕ → ℕ → ℕ → ℕ
+cardWord w i k = getD w (cellAt cardsAt cardWidth i k) 0
+
+unfoldable pub faultWord : List ℕ → ℕ → ℕ → ℕ
+faultWord w i k = getD w (cellAt (faultsAt (getD w 1 0)) faultWidth i k) 0
+
+unfoldable pub readFault : List ℕ → ℕ → Fault
+readFault w i = record { at = i; day = faultWord w i 1; code = faultWord w i 2 }
+
+unfoldable pub readCard : List ℕ → ℕ → Card
+readCard w i =
+    record {
+      at = i;
+      serial = take (cardWord w i 1) (bytesOf (cardWord w i 2) ++ (bytesOf (cardWord w i 3) ++ (bytesOf (cardWord w i 4) ++ bytesOf (cardWord w i 5))));
+      faults = map (readFault w) (follow (getD w 2 0) (λ k. faultWord w k 0) (cardWord w i 6));
+    }
+
+unfoldable pub readChain : List ℕ → ℕ → List Card
+readChain w b = map (readCard w) (follow (getD w 1 0) (λ k. cardWord w k 0) (getD w (segmentsAt + b) 0))
+
+unfoldable pub decode : List ℕ → Store
+decode w =
+    record {
+      limit = getD w 1 0;
+      faultLimit = getD w 2 0;
+      maxp = getD w 3 0;
+      p = getD w 4 0;
+      buckets = map (readChain w) (from 0 (getD w 3 0 + getD w 4 0));
+      free = follow (getD w 1 0) (λ k. cardWord w k 0) (getD w 7 0);
+      freeFaults = follow (getD w 2 0) (λ k. faultWord w k 0) (getD w 8 0);
+    }
+
+-- soundness
+
+-- each of the cells 1 to n exactly once
+unfoldable pub eachOnce : ℕ → List ℕ → Bool
+eachOnce n l = eqb (length l) n && (all (between 1 n) l && distinct eqb l)
+
+-- a card that may stand in bucket b: valid serial, at its address, valid faults
+unfoldable pub goodCard : ℕ → ℕ → ℕ → Card → Bool
+goodCard maxp p b c =
+    serialOk (c .serial) && (eqb (addressOf (codeOf (c .serial)) maxp p) b && all (λ f. validFault (f .day) (f .code)) (c .faults))
+
+unfoldable pub goodBuckets : Store → Bool
+goodBuckets s = all (λ b. all (goodCard (s .maxp) (s .p) b) (bucket s b)) (from 0 (size s))
+
+-- each card cell stands in exactly one bucket chain or the free chain, each fault cell in exactly one history or the free chain
+unfoldable pub cellsOk : Store → Bool
+cellsOk s = eachOnce (s .limit) (atsOf (join (cardChains s))) && eachOnce (s .faultLimit) (atsOf (join (faultChains s)))
+
+-- no serial twice
+unfoldable pub serialsOk : Store → Bool
+serialsOk s = distinct same (map (λ c. c .serial) (cards s))
+
+-- n ≤ 4B, and B = 16 or n ≥ 2B
+unfoldable pub loadOk : Store → Bool
+loadOk s = leb (held s) (upper * size s) && (eqb (size s) least || leb (lower * size s) (held s))
+
+-- all but the load, which an entry breaks until its split
+unfoldable pub fair : Store → Bool
+fair s =
+    limitsOk (s .limit) (s .faultLimit) && (stateOk (s .maxp) (s .p) && (eqb (length (s .buckets)) (size s)
+    && (cellsOk s && (goodBuckets s && serialsOk s))))
+
+unfoldable pub good : Store → Bool
+good s = loadOk s && fair s
+
+-- a state out of range would have `decode` read buckets without end, so it is tested first
+abbrev pub soundIf : Bool → List ℕ → Bool
+soundIf false w = false
+soundIf true w = good (decode w) && same (encode (decode w)) w
+
+unfoldable pub sound : List ℕ → Bool
+sound w = soundIf (stateOk (getD w 3 0) (getD w 4 0) && limitsOk (getD w 1 0) (getD w 2 0)) w

@@ -1,0 +1,10 @@
+-- Document 01 as definitions that compute, in its order: serials and faults, the store, the words it stands in, the calls,
+-- the plain list of cards, sequences of calls, the job.
+pub mod Lists
+pub mod Serial
+pub mod Model
+pub mod Layout
+pub mod Calls
+pub mod Plain
+pub mod Runs
+pub mod Job
