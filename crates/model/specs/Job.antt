@@ -1,12 +1,12 @@
--- The job: lines of text run against a store.
-use Prim.Native.Nat.{ℕ, zero, suc, _+_, _-_, _*_, _/_, _%_, _^_, min}
-use mathlib.Core.List.{List, [], _∷_, _++_, map}
-use mathlib.Core.Bool.{Bool, true, false, not, _&&_, _||_, cond}
-use lib.Dec.{leb, ltb, eqb}
-use lib.ListN.{length, take, drop, getD, replicate}
+-- The job: lines of text run against a store, their answers, and the tally.
+use Prim.Native.Nat.{ℕ, zero, suc, _+_, _-_, _*_, _/_, _%_, min}
+use mathlib.Core.List.{List, [], _∷_, _++_}
+use mathlib.Core.Bool.{Bool, true, false, _&&_, cond}
+use lib.Dec.{ltb, eqb}
+use lib.ListN.{length, take, drop, replicate}
 use Rattle.model.specs.Lists.{between, all, same}
-use Rattle.model.specs.Model.{Store, held, size, placed, removed}
-use Rattle.model.specs.Layout.{encode, decode, sound}
+use Rattle.model.specs.Model.{Store, size}
+use Rattle.model.specs.Layout.{mostFaults, encode, decode, sound}
 use Rattle.model.specs.Calls.{Answer, Step, refused, cleaned, scratchNeed, stays, enterStep, fileStep, showStep, withdrawStep}
 
 -- the fields between separators; there is always one
@@ -65,9 +65,9 @@ fromFields (a ∷ b ∷ c ∷ d ∷ e ∷ fs) = bad
 unfoldable pub lineOf : List ℕ → Line
 lineOf l = cond (ltb 64 (length l)) bad (fromFields (fields 32 l))
 
--- the room that a line is given: never too little
+-- the room that a line is given: two words for each fault that a store can hold, never too little
 unfoldable pub enough : List ℕ
-enough = replicate 4096 0
+enough = replicate (2 * mostFaults) 0
 
 unfoldable pub stepOf : Store → Line → Step
 stepOf s bad = stays (refused 12) s []
@@ -79,7 +79,9 @@ stepOf s (file f day code) = fileStep s (padded f) (length f) day code
 -- decimal digits of a number below 10 ^ 20
 unfoldable pub digits : ℕ → ℕ → List ℕ → List ℕ
 digits zero n acc = acc
-digits (suc fuel) n acc = elim (ltb n 10) [ true ↦ (48 + n) ∷ acc | false ↦ digits fuel (n / 10) ((48 + n % 10) ∷ acc) ]
+digits (suc fuel) n acc =
+    let rest = digits fuel (n / 10) ((48 + n % 10) ∷ acc) in
+    cond (ltb n 10) ((48 + n) ∷ acc) rest
 
 unfoldable pub decimal : ℕ → List ℕ
 decimal n = digits 20 n []
@@ -111,11 +113,12 @@ pub record Tally : Type 0 where
   pub contractions : ℕ
   pub comparisons : ℕ
 
-unfoldable pub top : ℕ
-top = 18446744073709551615
+-- a sum of 64 bits, held at the top instead of passing it
+unfoldable pub tallyTop : ℕ
+tallyTop = 18446744073709551615
 
 unfoldable pub plus : ℕ → ℕ → ℕ
-plus a b = min top (a + b)
+plus a b = min tallyTop (a + b)
 
 unfoldable pub one : Bool → ℕ
 one b = cond b 1 0
@@ -139,7 +142,7 @@ counted t s l r =
       comparisons = plus (t .comparisons) (r .answer .comparisons);
     }
 
--- a job under way: what is left of it by line
+-- a job under way: its number so far, lines done, text written, the store and the tally
 pub record Run : Type 0 where
   pub number : ℕ
   pub lines : ℕ
@@ -147,17 +150,20 @@ pub record Run : Type 0 where
   pub store : Store
   pub tally : Tally
 
-unfoldable pub runLines : List (List ℕ) → ℕ → ℕ → List ℕ → Store → Tally → Run
-runLines [] room done text s t = record { number = 0; lines = done; text = text; store = s; tally = t }
-runLines (x ∷ xs) room done text s t =
+-- a line whose answer exceeds the output left stops the job before it
+unfoldable pub runLines : List (List ℕ) → ℕ → Run → Run
+runLines [] room r = r
+runLines (x ∷ xs) room r =
     let l = lineOf x in
-    let r = stepOf s l in
-    let answer = answerText l r in
-    elim (ltb room (length text + length answer)) [
-      | true ↦ record { number = 10; lines = done; text = text; store = s; tally = t }
-      | false ↦ runLines xs room (suc done) (text ++ answer) (r .store) (counted t s l r)
-    ]
+    let step = stepOf (r .store) l in
+    let answer = answerText l step in
+    let stopped : Run = record { number = 10; lines = r .lines; text = r .text; store = r .store; tally = r .tally } in
+    let next : Run =
+    record { number = 0; lines = suc (r .lines); text = r .text ++ answer; store = step .store; tally = counted (r .tally) (r .store) l step } in
+    let rest = runLines xs room next in
+    cond (ltb room (length (r .text) + length answer)) stopped rest
 
+-- what a job returns, and all that it leaves
 pub record Finished : Type 0 where
   pub number : ℕ
   pub lines : ℕ
@@ -167,24 +173,32 @@ pub record Finished : Type 0 where
   pub scratch : List ℕ
   pub tally : Tally
 
-unfoldable pub turnedAway : ℕ → List ℕ → List ℕ → List ℕ → Tally → Finished
+abbrev pub turnedAway : ℕ → List ℕ → List ℕ → List ℕ → Tally → Finished
 turnedAway n w out scratch t = record { number = n; lines = 0; bytes = 0; words = w; out = out; scratch = scratch; tally = t }
 
+abbrev pub started : Store → Tally → Run
+started s t = record { number = 0; lines = 0; text = []; store = s; tally = t }
+
+abbrev pub jobIf : Bool → List ℕ → List ℕ → List ℕ → List ℕ → Tally → Finished
+jobIf false w scratch text out t = turnedAway 3 w out (cleaned scratch) t
+jobIf true w scratch text out t =
+    let r = runLines (linesOf text) (length out) (started (decode w) t) in
+    record {
+      number = r .number;
+      lines = r .lines;
+      bytes = length (r .text);
+      words = encode (r .store);
+      out = r .text ++ drop (length (r .text)) out;
+      scratch = cleaned scratch;
+      tally = r .tally;
+    }
+
+unfoldable pub mostText : ℕ
+mostText = 16384
+
+-- first 11, then 13, then 3; soundness is tested once
 unfoldable pub job : List ℕ → List ℕ → List ℕ → List ℕ → Tally → Finished
 job w scratch text out t =
     cond (ltb (length scratch) scratchNeed) (turnedAway 11 w out scratch t)
-    (cond (ltb 16384 (length text)) (turnedAway 13 w out (cleaned scratch) t)
-    (elim (sound w) [
-      | false ↦ turnedAway 3 w out (cleaned scratch) t
-      | true ↦
-          let r = runLines (linesOf text) (length out) 0 [] (decode w) t in
-          record {
-            number = r .number;
-            lines = r .lines;
-            bytes = length (r .text);
-            words = encode (r .store);
-            out = r .text ++ drop (length (r .text)) out;
-            scratch = cleaned scratch;
-            tally = r .tally;
-          }
-    ]))
+    (cond (ltb mostText (length text)) (turnedAway 13 w out (cleaned scratch) t)
+    (jobIf (sound w) w scratch text out t))
