@@ -1,0 +1,93 @@
+-- The checker as a function of the words and the marks, in the order in which the code goes.
+use mathlib.Core.Path.{_≡_}
+use mathlib.Core.Bool.{Bool, true, false, cond, not, _&&_, _||_}
+use mathlib.Core.List.{List, [], _∷_, map}
+use Prim.Native.Nat.{ℕ, _+_, _-_, _*_, _/_, _≤_}
+use lib.Dec.{eqb, leb, ltb}
+use lib.ListN.{length, getD}
+use Rattle.rules.specs.Table.{least, top, upper, lower, stateOk}
+use Rattle.model.specs.Lists.{all, from}
+use Rattle.model.specs.Layout.{format, directoryAt, segmentsAt, segmentSize, cardsAt, faultsAt, lengthFor, limitsOk, cardWord}
+use Rattle.store.specs.Cells.{cellWord, limitOf, cellFits}
+use Rattle.store.specs.Walk.{Out, Start, Tot, walkOf, walksFrom}
+
+-- words 0 to 2 and the length
+unfoldable pub limitsFit : List ℕ → Bool
+limitsFit w = leb cardsAt (length w) && (eqb (getD w 0 0) format && (limitsOk (getD w 1 0) (getD w 2 0) && eqb (length w) (lengthFor (getD w 1 0) (getD w 2 0))))
+
+-- words 9 to 15
+unfoldable pub offsetsFit : List ℕ → Bool
+offsetsFit w =
+    eqb (getD w 9 0) directoryAt && (eqb (getD w 10 0) segmentsAt && (eqb (getD w 11 0) cardsAt && (eqb (getD w 12 0) (faultsAt (getD w 1 0))
+    && (eqb (getD w 13 0) (lengthFor (getD w 1 0) (getD w 2 0)) && (eqb (getD w 14 0) 0 && eqb (getD w 15 0) 0)))))
+
+-- the load of the cards that word 5 says are held
+unfoldable pub loadFits : ℕ → ℕ → Bool
+loadFits n b = leb n (upper * b) && (eqb b least || leb (lower * b) n)
+
+-- the directory word of segment k with b buckets
+unfoldable pub entryFor : ℕ → ℕ → ℕ
+entryFor b k = cond (ltb (segmentSize * k) b) (segmentsAt + segmentSize * k) 0
+
+unfoldable pub directoryFits : List ℕ → ℕ → Bool
+directoryFits w b = all (λ k. eqb (getD w (directoryAt + k) 0) (entryFor b k)) (from 0 (top / segmentSize))
+
+-- bucket words from b on
+unfoldable pub restFits : List ℕ → ℕ → Bool
+restFits w b = all (λ j. eqb (getD w (segmentsAt + j) 0) 0) (from b (top - b))
+
+-- all words before the cells but the chains' first cells
+unfoldable pub frontFits : List ℕ → Bool
+frontFits w =
+    let b = getD w 3 0 + getD w 4 0 in
+    limitsFit w && (stateOk (getD w 3 0) (getD w 4 0) && (offsetsFit w && (loadFits (getD w 5 0) b && (directoryFits w b && restFits w b))))
+
+-- the chains of a part beside the free one: bucket j, or the history of card j + 1 with its count and last fault
+unfoldable pub firstOf : List ℕ → Bool → ℕ → ℕ
+firstOf w faults j = cond faults (cardWord w (j + 1) 6) (getD w (segmentsAt + j) 0)
+
+unfoldable pub endFits : List ℕ → Bool → ℕ → ℕ → ℕ → Bool
+endFits w faults j count last = cond faults (eqb count (cardWord w (j + 1) 8) && eqb last (cardWord w (j + 1) 7)) true
+
+abbrev pub startOf : List ℕ → Bool → ℕ → Start
+startOf w faults j = record { first = firstOf w faults j; good = cellFits w faults (cond faults 0 j); fits = endFits w faults j }
+
+abbrev pub nextIn : List ℕ → Bool → ℕ → ℕ
+nextIn w faults i = cellWord w faults i 0
+
+-- the numbers that mark the cells of a part begin at 0 for cards and behind them for faults
+unfoldable pub baseOf : List ℕ → Bool → ℕ
+baseOf w faults = cond faults (getD w 1 0) 0
+
+-- the walks of the first n such chains
+unfoldable pub chainsOf : List ℕ → Bool → ℕ → List ℕ → Tot
+chainsOf w faults n bytes = walksFrom (nextIn w faults) (baseOf w faults) (limitOf w faults) (map (startOf w faults) (from 0 n)) bytes 0
+
+-- the walk of the free chain
+unfoldable pub freeOf : List ℕ → Bool → List ℕ → Out
+freeOf w faults bytes = walkOf (cellFits w faults top) (nextIn w faults) (baseOf w faults) (limitOf w faults) bytes (getD w (cond faults 8 7) 0)
+
+-- how many chains there are, and the word that says how many cells stand in them
+unfoldable pub chainCount : List ℕ → Bool → ℕ
+chainCount w faults = cond faults (getD w 1 0) (getD w 3 0 + getD w 4 0)
+
+unfoldable pub heldWord : List ℕ → Bool → ℕ
+heldWord w faults = getD w (cond faults 6 5) 0
+
+-- a part is right where its chains are, the held cells are as many as the header says, and all cells stand in a chain
+pub record Checked : Type 0 where
+  pub ok : Bool
+  pub bytes : List ℕ
+
+unfoldable pub partOf : List ℕ → Bool → List ℕ → Checked
+partOf w faults bytes =
+    let free = freeOf w faults bytes in
+    let held = chainsOf w faults (chainCount w faults) (free .bytes) in
+    record {
+      ok = free .ok && (held .ok && (eqb (held .total) (heldWord w faults) && eqb (free .count + held .total) (limitOf w faults)));
+      bytes = cond (free .ok) (held .bytes) (free .bytes);
+    }
+
+-- the words are those of a sound store: the front, then the cards, then the faults
+unfoldable pub checked : List ℕ → List ℕ → Bool
+checked w bytes = frontFits w && (partOf w false bytes .ok && partOf w true (partOf w false bytes .bytes) .ok)

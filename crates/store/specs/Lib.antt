@@ -1,0 +1,5 @@
+-- What the store's inner functions answer, as functions on lists of words and bytes: marks, serials, walks, the checker's steps.
+pub mod Marks
+pub mod Cells
+pub mod Walk
+pub mod Checker
