@@ -1,1 +1,3 @@
--- laws of the store
+-- Laws of the store's code, and of what it computes
+pub mod Rows
+pub mod SerialLaws

@@ -1,0 +1,2 @@
+// The store of cards: Open, the four calls, and the checker of soundness.
+mod serial;
