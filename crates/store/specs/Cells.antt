@@ -21,6 +21,12 @@ pub record Sized (w : List ℕ) (c f : ℕ) : Type 0 where
   pub limit : getD w 1 0 ≡ c
   pub faultLimit : getD w 2 0 ≡ f
 
+-- the header as the code read it once: the words are sized, and (m, p) is the state that they hold
+pub record Read (w : List ℕ) (c f m p : ℕ) : Type 0 where
+  pub sized : Sized w c f
+  pub maxp : getD w 3 0 ≡ m
+  pub state : getD w 4 0 ≡ p
+
 -- whether byte i may stand in a serial of length n: allowed before it, zero from there on
 unfoldable pub byteFits : ℕ → ℕ → ℕ → Bool
 byteFits b i n = cond (ltb i n) (allowed b) (eqb 0 b)

@@ -1,2 +1,3 @@
 // The store of cards: Open, the four calls, and the checker of soundness.
+mod cells;
 mod serial;
