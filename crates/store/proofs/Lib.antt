@@ -1,4 +1,7 @@
--- Laws of the store's code, and of what it computes
+-- Laws of tests in a row, of serials and of cells
 pub mod Rows
 pub mod SerialLaws
 pub mod CellLaws
+-- Laws of marks and of walks, that know nothing of cards
+pub mod MarkLaws
+pub mod WalkLaws

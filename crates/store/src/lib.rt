@@ -1,3 +1,4 @@
 // The store of cards: Open, the four calls, and the checker of soundness.
-mod cells;
 mod serial;
+mod marks;
+mod cells;
