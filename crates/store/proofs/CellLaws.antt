@@ -7,9 +7,11 @@ use native.Mathlib.Omega.{arith}
 use borrow.Author.Tests.{eq-eqb, ne-eqb}
 use lib.Dec.{eqb}
 use lib.ListN.{length, getD}
+use Rattle.rules.specs.Table.{top}
 use Rattle.model.specs.Lists.{between, all, from}
 use Rattle.model.specs.Layout.{cardsAt, faultsAt, cellAt, cardWord, faultWord}
 use Rattle.store.specs.Cells.{Sized, limitOf, widthOf, cellWord, sameKey, metFirst, freeFits}
+use Rattle.store.specs.Checker.{reachOf}
 use Rattle.store.proofs.Rows.{run-more, run-fails, run-ends}
 
 -- the code's own sums are the places of the words
@@ -30,10 +32,21 @@ pub limit-faults : {w : List ℕ} {c f : ℕ} → Sized w c f → limitOf w true
 unfolding limitOf
 limit-faults s = s .faultLimit
 
+pub width-some : (faults : Bool) → 0 < widthOf faults
+unfolding widthOf
+width-some true = omega arith
+width-some false = omega arith
+
 pub width-most : (faults : Bool) → widthOf faults ≤ 9
 unfolding widthOf
 width-most true = omega arith
 width-most false = omega arith
+
+-- the bucket of a chain is below the most
+pub bucket-most : (w : List ℕ) (faults : Bool) (j : ℕ) → j < reachOf w faults → cond faults 0 j ≤ top
+unfolding reachOf
+bucket-most w true j h = omega arith
+bucket-most w false j h = omega arith
 
 -- the search for a card's twin along a chain: what is left from here is what was left from the start
 module _ (w : List ℕ) (j i c n : ℕ) (h : n < c) where

@@ -1,4 +1,5 @@
 // The store of cards: Open, the four calls, and the checker of soundness.
-mod serial;
-mod marks;
 mod cells;
+mod marks;
+mod serial;
+mod walks;
