@@ -9,3 +9,7 @@ pub mod Writes
 pub mod Lend
 -- The store as facts
 pub mod Fair
+pub mod Look
+pub mod Steps
+pub mod Growth
+pub mod Accepted

@@ -1,0 +1,161 @@
+-- What an accepted call does to a good store: it stays good, the card of each serial, every sum over the cards, and the limits. An entry
+-- and a withdrawal are the step and then the load rule, which changes nothing that is held, so their laws are those of the step.
+-- A fresh store is good: it holds no card, and its free cells are 1, 2, 3 to the last.
+use Prim.Native.Nat.{ℕ, zero, suc, _+_, _≤_, _<_}
+use mathlib.Core.Path.{_≡_, refl, ap, _∙_}
+use mathlib.Core.Logic.{_⊎_, inl, inr, ⊎-elim}
+use mathlib.Core.List.{List, [], _∷_, _++_}
+use mathlib.Core.Bool.{true, cond}
+use native.Mathlib.Omega.{arith}
+use lib.Dec.{ltb}
+use lib.ListN.{length, getD, replicate, getD-replicate, List·getD-eq-default}
+use borrow.Author.Tests.{ltb-true, ltb-false}
+use Rattle.rules.specs.Table.{least, splits, contracts}
+use Rattle.rules.proofs.Tests.{by-cases, eq?}
+use Rattle.rules.proofs.States.{Size.s16, state-ok}
+use Rattle.model.specs.Lists.{same, from, total}
+use Rattle.model.specs.Serial.{serialOk, validFault}
+use Rattle.model.specs.Model.{Card, Store, cards, held, faultsHeld, size, fresh, newCard, placed, split, grown, entered, filed, removed, contract, shrunk, withdrawn}
+use Rattle.model.specs.Layout.{limitsOk}
+use Rattle.model.proofs.Sums.{count, bit-same, bit-other, length-total}
+use Rattle.model.proofs.Fair.{one, Fair, Good, card-cells, card-count, fault-cells, fault-count}
+use Rattle.model.proofs.Look.{look}
+use Rattle.model.proofs.Steps.{placed-total, placed-look, placed-fair, filed-total, filed-fair, removed-total, removed-look, removed-fair}
+use Rattle.model.proofs.Growth.{grown-total, grown-look, grown-good, shrunk-total, shrunk-look, shrunk-good}
+
+-- the limits never change
+
+pub record SameLimits (s t : Store) : Type 0 where
+  pub limit : t .limit ≡ s .limit
+  pub faultLimit : t .faultLimit ≡ s .faultLimit
+
+grown-limits : (s : Store) → SameLimits s (grown s)
+unfolding grown split
+grown-limits s = by-cases (splits (held s) (size s)) (λ e. rw e (record { limit = refl; faultLimit = refl })) (λ e. rw e (record { limit = refl; faultLimit = refl }))
+
+shrunk-limits : (s : Store) → SameLimits s (shrunk s)
+unfolding shrunk contract
+shrunk-limits s = by-cases (contracts (held s) (size s)) (λ e. rw e (record { limit = refl; faultLimit = refl })) (λ e. rw e (record { limit = refl; faultLimit = refl }))
+
+pub entered-limits : (s : Store) (y : List ℕ) → SameLimits s (entered s y)
+unfolding entered placed
+entered-limits s y = let h = grown-limits (placed s y) in record { limit = h .limit; faultLimit = h .faultLimit }
+
+pub filed-limits : (s : Store) (y : List ℕ) (day code : ℕ) → SameLimits s (filed s y day code)
+unfolding filed
+filed-limits s y day code = record { limit = refl; faultLimit = refl }
+
+pub withdrawn-limits : (s : Store) (y : List ℕ) → SameLimits s (withdrawn s y)
+unfolding withdrawn removed
+withdrawn-limits s y = let h = shrunk-limits (removed s y) in record { limit = h .limit; faultLimit = h .faultLimit }
+
+-- the three calls that change a store
+
+placed-size : (s : Store) (y : List ℕ) → size (placed s y) ≡ size s
+unfolding placed
+placed-size s y = refl
+
+removed-size : (s : Store) (y : List ℕ) → size (removed s y) ≡ size s
+unfolding removed
+removed-size s y = refl
+
+filed-size : (s : Store) (y : List ℕ) (day code : ℕ) → size (filed s y day code) ≡ size s
+unfolding filed
+filed-size s y day code = refl
+
+-- as many cards more, by the sum of 1 over them
+held-as : (s t : Store) (k : ℕ) → total one (cards t) ≡ total one (cards s) + k → held t ≡ held s + k
+held-as s t k e = omega (arith, length-total (cards s), length-total (cards t))
+
+module _ (s : Store) (g : Good s) (y : List ℕ) where
+  module _ (valid : serialOk y ≡ true) (new : look s y ≡ []) (room : held s < s .limit) where
+    fair : Fair (placed s y)
+    fair = placed-fair s (g .fair) y valid new room
+
+    pub entered-total : (w : Card → ℕ) → total w (cards (entered s y)) ≡ total w (cards s) + w (newCard s y)
+    unfolding entered
+    entered-total w = grown-total (placed s y) fair w ∙ placed-total s (g .fair) y w
+
+    pub entered-look : (x : List ℕ) → look (entered s y) x ≡ look s x ++ cond (same x y) (newCard s y ∷ []) []
+    unfolding entered
+    entered-look x = grown-look (placed s y) fair x ∙ placed-look s (g .fair) y x
+
+    pub entered-good : Good (entered s y)
+    unfolding entered
+    entered-good =
+        let n = held-as s (placed s y) 1 (placed-total s (g .fair) y one) in
+        let z = placed-size s y in
+        grown-good (placed s y) fair (omega (arith, g .high)) (λ h. omega (arith, g .low (omega arith)))
+
+  pub filed-good : (day code : ℕ) → validFault day code ≡ true → length (look s y) ≡ 1 → faultsHeld s < s .faultLimit → Good (filed s y day code)
+  filed-good day code valid held room =
+      let n = held-as s (filed s y day code) 0 (filed-total s (g .fair) y day code one 0 (λ c. refl) held) in
+      let z = filed-size s y day code in
+      record { fair = filed-fair s (g .fair) y day code valid held room; high = omega (arith, g .high); low = λ h. omega (arith, g .low (omega arith)) }
+
+  pub withdrawn-total : (w : Card → ℕ) → total w (cards (withdrawn s y)) + total w (look s y) ≡ total w (cards s)
+  unfolding withdrawn
+  withdrawn-total w = omega (arith, shrunk-total (removed s y) (removed-fair s (g .fair) y) w, removed-total s (g .fair) y w)
+
+  pub withdrawn-look : (x : List ℕ) → look (withdrawn s y) x ≡ cond (same y x) [] (look s x)
+  unfolding withdrawn
+  withdrawn-look x = shrunk-look (removed s y) (removed-fair s (g .fair) y) x ∙ removed-look s (g .fair) y x
+
+  pub withdrawn-good : length (look s y) ≡ 1 → Good (withdrawn s y)
+  unfolding withdrawn
+  withdrawn-good held =
+      let n = held-as (removed s y) s 1 (omega (arith, removed-total s (g .fair) y one, length-total (look s y))) in
+      let z = removed-size s y in
+      shrunk-good (removed s y) (removed-fair s (g .fair) y) (omega (arith, g .high)) (λ h. omega (arith, g .low (omega arith)))
+
+-- a fresh store
+
+length-from : (a n : ℕ) → length (from a n) ≡ n
+length-from a zero = refl
+length-from a (suc n) = ap suc (length-from (suc a) n)
+
+-- a number that stands among the n from a on is one of them, and stands there once
+count-from : (x a n : ℕ) → (count x (from a n) ≤ 1) × (0 < count x (from a n) → (a ≤ x) × (x < a + n))
+count-from x a zero = (omega arith, λ h. absurd (omega arith))
+count-from x a (suc n) =
+    let i = count-from x (suc a) n in
+    ⊎-elim
+    (λ (e : x ≡ a). (⊎-elim (λ z. omega (arith, bit-same x a e)) (λ h. absurd (omega (arith, i .1 h .0))) (none? (count x (from (suc a) n))), λ h. (omega arith, omega arith)))
+    (λ (d : x ≡ a → ⊥). (omega (arith, bit-other x a d, i .0), λ h. let k = i .1 (omega (arith, bit-other x a d)) in (omega (arith, k .0), omega (arith, k .1))))
+    (eq? x a)
+  where
+    none? : (n : ℕ) → (n ≡ 0) ⊎ (0 < n)
+    none? zero = inl refl
+    none? (suc n) = inr (omega arith)
+
+pub no-cards : (b : ℕ) → _≡_ {A = List Card} (getD (replicate least []) b []) []
+no-cards b =
+    by-cases (ltb b least)
+    (λ e. getD-replicate least b [] [] (ltb-true b least e))
+    (λ e. List·getD-eq-default (replicate least []) [] {n = b} (ltb-false b least e))
+
+pub fresh-good : (c f : ℕ) → limitsOk c f ≡ true → Good (fresh c f)
+unfolding fresh
+fresh-good c f ok =
+    record {
+      fair =
+          record {
+            limits = ok;
+            state = state-ok (record { size = s16; below = omega arith; room = omega arith });
+            number = refl;
+            cells = record {
+              once = λ x. omega (arith, card-cells (fresh c f) x, count-from x 1 c .0);
+              inside = λ x h. let k = count-from x 1 c .1 (omega (arith, card-cells (fresh c f) x)) in (k .0, omega (arith, k .1));
+              count = omega (arith, card-count (fresh c f), length-from 1 c);
+            };
+            faultCells = record {
+              once = λ x. omega (arith, fault-cells (fresh c f) x, count-from x 1 f .0);
+              inside = λ x h. let k = count-from x 1 f .1 (omega (arith, fault-cells (fresh c f) x)) in (k .0, omega (arith, k .1));
+              count = omega (arith, fault-count (fresh c f), length-from 1 f);
+            };
+            addressed = λ b. rw (no-cards b);
+            different = λ y. omega arith;
+          };
+      high = omega arith;
+      low = λ h. absurd (omega arith);
+    }
