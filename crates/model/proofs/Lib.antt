@@ -9,7 +9,10 @@ pub mod Writes
 pub mod Lend
 -- The store as facts
 pub mod Fair
+-- What each step does to it, the auditor's second question, and a chain cut at a card
 pub mod Look
 pub mod Steps
 pub mod Growth
 pub mod Accepted
+pub mod Audit
+pub mod Cut

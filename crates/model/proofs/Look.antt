@@ -1,10 +1,10 @@
 -- The card of a serial. In a fair store a card stands in the bucket of its address, so no other bucket has a card of that serial
 -- (`elsewhere`), and what the serial's own chain shows, `look`, is what the whole store holds of it (`look-cards`), which is the card
 -- itself for each card (`card-look`). A step that replaces one chain is judged by that chain alone (`look-chain`, `home-chain`).
-use Prim.Native.Nat.{ℕ, _≤_, _<_}
+use Prim.Native.Nat.{ℕ, zero, suc, _≤_, _<_}
 use mathlib.Core.Path.{_≡_, refl, sym, ap, _∙_}
 use mathlib.Core.Logic.{_≢_, inl, inr}
-use mathlib.Core.List.{List, [], _∷_, List·Memᴰ, List·Memᴰ·head, List·Memᴰ·tail, List·Memᴰ·cases-cons, List·Memᴰ·not-nil, List·Memᴰ·eq-of-singleton}
+use mathlib.Core.List.{List, [], _∷_, Memᴰ·append-left, Memᴰ·append-right, List·Memᴰ, List·Memᴰ·head, List·Memᴰ·tail, List·Memᴰ·cases-cons, List·Memᴰ·not-nil, List·Memᴰ·eq-of-singleton}
 use mathlib.Core.Bool.{Bool, true, false}
 use native.Mathlib.Omega.{arith}
 use lib.Dec.{eqb}
@@ -14,7 +14,7 @@ use Rattle.rules.specs.Code.{codeOf}
 use Rattle.rules.specs.Table.{addressOf}
 use Rattle.rules.proofs.Tests.{by-cases, not-both, both, all-of}
 use Rattle.rules.proofs.Addresses.{address-below}
-use Rattle.model.specs.Lists.{all, same, keep, total}
+use Rattle.model.specs.Lists.{all, same, keep, join, total}
 use Rattle.model.specs.Serial.{serialOk}
 use Rattle.model.specs.Model.{Card, Store, cards, bucket, addressIn, chainFor, is, found}
 use Rattle.model.specs.Layout.{goodCard}
@@ -100,3 +100,22 @@ card-look s r c m =
     only c (look s (c .serial))
     (rw (look-cards s r (c .serial)) at (card-kept (is (c .serial)) c (cards s) m (same-refl (c .serial))))
     (look-once s r (c .serial))
+
+-- each card stands in the bucket of its address
+pub card-home : (s : Store) → Fair s → (b : ℕ) (c : Card) → List·Memᴰ c (bucket s b) → addressIn s (c .serial) ≡ b
+card-home s r b c m = card-address (s .maxp) (s .p) b c (go (bucket s b) (r .addressed b) m)
+  where
+    go : (l : List Card) → all (goodCard (s .maxp) (s .p) b) l ≡ true → List·Memᴰ c l → goodCard (s .maxp) (s .p) b c ≡ true
+    go [] t m = absurd (List·Memᴰ·not-nil m)
+    go (x ∷ l) t m =
+        let h = both (goodCard (s .maxp) (s .p) b x) (all (goodCard (s .maxp) (s .p) b) l) t in
+        elim (List·Memᴰ·cases-cons m) [ inl e ↦ rw e (h .0) | inr k ↦ go l (h .1) k ]
+
+-- and is found there by its serial
+pub card-found : (s : Store) → Fair s → (b : ℕ) (c : Card) → List·Memᴰ c (bucket s b) → look s (c .serial) ≡ c ∷ []
+card-found s r b c m = card-look s r c (go (s .buckets) b m)
+  where
+    go : (bs : List (List Card)) (b : ℕ) → List·Memᴰ c (getD bs b []) → List·Memᴰ c (join bs)
+    go [] b m = absurd (List·Memᴰ·not-nil m)
+    go (x ∷ bs) zero m = Memᴰ·append-left (join bs) m
+    go (x ∷ bs) (suc b) m = Memᴰ·append-right x (go bs b m)
