@@ -1,26 +1,23 @@
 -- What an accepted call does to a good store: it stays good, the card of each serial, every sum over the cards, and the limits. An entry
 -- and a withdrawal are the step and then the load rule, which changes nothing that is held, so their laws are those of the step.
--- A fresh store is good: it holds no card, and its free cells are 1, 2, 3 to the last.
-use Prim.Native.Nat.{ℕ, zero, suc, _+_, _≤_, _<_}
-use mathlib.Core.Path.{_≡_, refl, ap, _∙_}
-use mathlib.Core.Logic.{_⊎_, inl, inr, ⊎-elim}
+-- A fresh store is good and shows no card of any serial.
+use Prim.Native.Nat.{ℕ, _+_, _<_}
+use mathlib.Core.Path.{_≡_, refl, sym, _∙_}
 use mathlib.Core.List.{List, [], _∷_, _++_}
 use mathlib.Core.Bool.{true, cond}
 use native.Mathlib.Omega.{arith}
-use lib.Dec.{ltb}
-use lib.ListN.{length, getD, replicate, getD-replicate, List·getD-eq-default}
-use borrow.Author.Tests.{ltb-true, ltb-false}
-use Rattle.rules.specs.Table.{least, splits, contracts}
-use Rattle.rules.proofs.Tests.{by-cases, eq?}
-use Rattle.rules.proofs.States.{Size.s16, state-ok}
-use Rattle.model.specs.Lists.{same, from, total}
+use lib.ListN.{length}
+use Rattle.rules.specs.Table.{splits, contracts}
+use Rattle.rules.proofs.Tests.{by-cases}
+use Rattle.model.specs.Lists.{same, total}
 use Rattle.model.specs.Serial.{serialOk, validFault}
 use Rattle.model.specs.Model.{Card, Store, cards, held, faultsHeld, size, fresh, newCard, placed, split, grown, entered, filed, removed, contract, shrunk, withdrawn}
 use Rattle.model.specs.Layout.{limitsOk}
-use Rattle.model.proofs.Sums.{count, bit-same, bit-other, length-total}
-use Rattle.model.proofs.Fair.{one, Fair, Good, card-cells, card-count, fault-cells, fault-count}
-use Rattle.model.proofs.Look.{look}
+use Rattle.model.proofs.Sums.{length-total}
+use Rattle.model.proofs.Fair.{one, Fair, Good}
+use Rattle.model.proofs.Look.{look, look-cards}
 use Rattle.model.proofs.Steps.{placed-total, placed-look, placed-fair, filed-total, filed-fair, removed-total, removed-look, removed-fair}
+use Rattle.model.proofs.Fresh.{fair-fresh}
 use Rattle.model.proofs.Growth.{grown-total, grown-look, grown-good, shrunk-total, shrunk-look, shrunk-good}
 
 -- the limits never change
@@ -108,54 +105,12 @@ module _ (s : Store) (g : Good s) (y : List ℕ) where
       let z = removed-size s y in
       shrunk-good (removed s y) (removed-fair s (g .fair) y) (omega (arith, g .high)) (λ h. omega (arith, g .low (omega arith)))
 
--- a fresh store
-
-length-from : (a n : ℕ) → length (from a n) ≡ n
-length-from a zero = refl
-length-from a (suc n) = ap suc (length-from (suc a) n)
-
--- a number that stands among the n from a on is one of them, and stands there once
-count-from : (x a n : ℕ) → (count x (from a n) ≤ 1) × (0 < count x (from a n) → (a ≤ x) × (x < a + n))
-count-from x a zero = (omega arith, λ h. absurd (omega arith))
-count-from x a (suc n) =
-    let i = count-from x (suc a) n in
-    ⊎-elim
-    (λ (e : x ≡ a). (⊎-elim (λ z. omega (arith, bit-same x a e)) (λ h. absurd (omega (arith, i .1 h .0))) (none? (count x (from (suc a) n))), λ h. (omega arith, omega arith)))
-    (λ (d : x ≡ a → ⊥). (omega (arith, bit-other x a d, i .0), λ h. let k = i .1 (omega (arith, bit-other x a d)) in (omega (arith, k .0), omega (arith, k .1))))
-    (eq? x a)
-  where
-    none? : (n : ℕ) → (n ≡ 0) ⊎ (0 < n)
-    none? zero = inl refl
-    none? (suc n) = inr (omega arith)
-
-pub no-cards : (b : ℕ) → _≡_ {A = List Card} (getD (replicate least []) b []) []
-no-cards b =
-    by-cases (ltb b least)
-    (λ e. getD-replicate least b [] [] (ltb-true b least e))
-    (λ e. List·getD-eq-default (replicate least []) [] {n = b} (ltb-false b least e))
+-- a fresh store holds no card
 
 pub fresh-good : (c f : ℕ) → limitsOk c f ≡ true → Good (fresh c f)
 unfolding fresh
-fresh-good c f ok =
-    record {
-      fair =
-          record {
-            limits = ok;
-            state = state-ok (record { size = s16; below = omega arith; room = omega arith });
-            number = refl;
-            cells = record {
-              once = λ x. omega (arith, card-cells (fresh c f) x, count-from x 1 c .0);
-              inside = λ x h. let k = count-from x 1 c .1 (omega (arith, card-cells (fresh c f) x)) in (k .0, omega (arith, k .1));
-              count = omega (arith, card-count (fresh c f), length-from 1 c);
-            };
-            faultCells = record {
-              once = λ x. omega (arith, fault-cells (fresh c f) x, count-from x 1 f .0);
-              inside = λ x h. let k = count-from x 1 f .1 (omega (arith, fault-cells (fresh c f) x)) in (k .0, omega (arith, k .1));
-              count = omega (arith, fault-count (fresh c f), length-from 1 f);
-            };
-            addressed = λ b. rw (no-cards b);
-            different = λ y. omega arith;
-          };
-      high = omega arith;
-      low = λ h. absurd (omega arith);
-    }
+fresh-good c f ok = record { fair = fair-fresh c f ok; high = omega arith; low = omega arith }
+
+pub fresh-look : (c f : ℕ) → limitsOk c f ≡ true → (x : List ℕ) → look (fresh c f) x ≡ []
+unfolding fresh
+fresh-look c f ok x = sym (look-cards (fresh c f) (fair-fresh c f ok) x)

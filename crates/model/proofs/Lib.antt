@@ -9,6 +9,12 @@ pub mod Writes
 pub mod Lend
 -- The store as facts
 pub mod Fair
+-- The words of a store
+pub mod Rep
+pub mod Serials
+pub mod Decode
+pub mod Sound
+pub mod Fresh
 -- What each step does to it, the auditor's second question, and a chain cut at a card
 pub mod Look
 pub mod Steps
