@@ -22,3 +22,6 @@ pub mod Growth
 pub mod Accepted
 pub mod Audit
 pub mod Cut
+-- The four steps by their numbers
+pub mod Cases
+pub mod Numbers
