@@ -2,17 +2,16 @@
 -- of the step (`X-cases`). The tests of the definitions become facts on the way: a serial is held once or not at all, so what is not
 -- held is `[]`, and no more is held than there are cells, so what is not full has room.
 use Prim.Native.Nat.{ℕ, _+_, _*_, _≤_, _<_}
-use mathlib.Core.Path.{_≡_, refl, ap}
-use mathlib.Core.Logic.{_↔_}
-use mathlib.Core.List.{List, [], _∷_}
+use mathlib.Core.Path.{_≡_}
+use mathlib.Core.List.{List, []}
 use mathlib.Core.Bool.{true, false}
 use native.Mathlib.Omega.{arith}
 use lib.Dec.{ltb, eqb}
 use lib.ListN.{length, take}
 use borrow.Author.Tests.{eqb-true, eqb-false, ltb-true, ltb-false}
-use Rattle.rules.proofs.Tests.{by-cases, not-both, both}
+use Rattle.rules.proofs.Tests.{by-cases, both}
 use Rattle.model.specs.Serial.{serialOk, validSerial, validFault}
-use Rattle.model.specs.Model.{Card, Store, held, faultsHeld, chainFor, comparisons, placed, removed, splitScan, contractScan, entered, filed, historyIn, withdrawn}
+use Rattle.model.specs.Model.{Store, held, faultsHeld, chainFor, comparisons, placed, removed, splitScan, contractScan, entered, filed, historyIn, withdrawn}
 use Rattle.model.specs.Calls.{Step, gives, refused, stays, written, enterStep, fileStep, showStep, withdrawStep}
 use Rattle.model.proofs.Lists.{length-none}
 use Rattle.model.proofs.Fair.{Good, card-count, fault-count}

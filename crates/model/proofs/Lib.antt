@@ -25,3 +25,4 @@ pub mod Cut
 -- The four steps by their numbers
 pub mod Cases
 pub mod Numbers
+pub mod Demand3
