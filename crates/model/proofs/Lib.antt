@@ -26,3 +26,4 @@ pub mod Cut
 pub mod Cases
 pub mod Numbers
 pub mod Demand3
+pub mod Demand2
