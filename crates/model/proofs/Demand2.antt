@@ -90,12 +90,12 @@ module _ (b : Book) (s : Store) (g : Good s) (a : Agrees b s) where
       → Agrees (withEntries b (b .entries ++ (record { serial = y; slips = [] } ∷ []))) (entered s y)
   enter-agrees y v l f =
       let new : List Entry = record { serial = y; slips = [] } ∷ [] in
-      let t = entered-total s g y v l f in
+      let t = entered-total s (g .fair) y v l f in
       record {
         limit = a .limit ∙ sym (entered-limits s y .limit);
         faultLimit = a .faultLimit ∙ sym (entered-limits s y .faultLimit);
         under = λ x.
-            rw (keep-append (λ e. same x (e .serial)) (b .entries) new, a .under x, entered-look s g y v l f x)
+            rw (keep-append (λ e. same x (e .serial)) (b .entries) new, a .under x, entered-look s (g .fair) y v l f x)
             (by-cases (same x y) (λ e. rw e (sym (map-append entry (look s x) (newCard s y ∷ [])))) (λ e. rw (e, append-nil (look s x), append-nil (map entry (look s x)))));
         number = omega (arith, a .number, length-append (b .entries) new, t one, length-total (cards s), length-total (cards (entered s y)));
         slips = omega (arith, a .slips, total-append (λ (e : Entry). length (e .slips)) (b .entries) new, t filings, faults-total (cards s), faults-total (cards (entered s y)));
@@ -134,12 +134,12 @@ module _ (b : Book) (s : Store) (g : Good s) (a : Agrees b s) where
 
   withdraw-agrees : (y : List ℕ) → Agrees (withEntries b (keep (λ e. not (same y (e .serial))) (b .entries))) (withdrawn s y)
   withdraw-agrees y =
-      let t = withdrawn-total s g y in
+      let t = withdrawn-total s (g .fair) y in
       record {
         limit = a .limit ∙ sym (withdrawn-limits s y .limit);
         faultLimit = a .faultLimit ∙ sym (withdrawn-limits s y .faultLimit);
         under = λ x.
-            rw (keep-remove (λ (e : Entry). e .serial) x y (b .entries), a .under x, withdrawn-look s g y x)
+            rw (keep-remove (λ (e : Entry). e .serial) x y (b .entries), a .under x, withdrawn-look s (g .fair) y x)
             (by-cases (same y x) (λ e. rw e) (λ e. rw e));
         number =
             omega (

@@ -58,7 +58,7 @@ pub history-act : (s : Store) → Good s → (a : Act) (x : List ℕ) → histor
 history-act s g (enter bytes n) x =
     enter-cases s g bytes n (λ r. historyOf (r .store) x ≡ history x (event (enter bytes n) r ∷ []) (historyOf s x))
     (λ v. refl) (λ v l. refl) (λ v l f. refl)
-    (λ v l f. rw (entered-look s g (take n bytes) (valid-serial bytes n v) l f x)
+    (λ v l f. rw (entered-look s (g .fair) (take n bytes) (valid-serial bytes n v) l f x)
     (by-cases (same x (take n bytes)) (λ e. rw (e, same-eq x (take n bytes) e, l)) (λ e. rw (e, append-nil (look s x)))))
 history-act s g (file bytes n day code) x =
     file-cases s g bytes n (λ r. historyOf (r .store) x ≡ history x (event (file bytes n day code) r ∷ []) (historyOf s x)) day code
@@ -72,7 +72,7 @@ history-act s g (show bytes n room) x =
 history-act s g (withdraw bytes n room) x =
     withdraw-cases s g bytes n (λ r. historyOf (r .store) x ≡ history x (event (withdraw bytes n room) r ∷ []) (historyOf s x)) room
     (λ v. refl) (λ v l. refl) (λ v l f. refl)
-    (λ v l f. rw (withdrawn-look s g (take n bytes) x, same-sym (take n bytes) x) (by-cases (same x (take n bytes)) (λ e. rw e) (λ e. rw e)))
+    (λ v l f. rw (withdrawn-look s (g .fair) (take n bytes) x, same-sym (take n bytes) x) (by-cases (same x (take n bytes)) (λ e. rw e) (λ e. rw e)))
 
 -- what was held and taken in is what is held and what went with a card
 pub faults-act : (s : Store) → Good s → (a : Act)
@@ -80,7 +80,7 @@ pub faults-act : (s : Store) → Good s → (a : Act)
 faults-act s g (enter bytes n) =
     enter-cases s g bytes n (λ r. faultsHeld (r .store) + since gone (event (enter bytes n) r ∷ []) 0 ≡ faultsHeld s + since taken (event (enter bytes n) r ∷ []) 0)
     (λ v. refl) (λ v l. refl) (λ v l f. refl)
-    (λ v l f. omega (arith, entered-total s g (take n bytes) (valid-serial bytes n v) l f filings, faults-total (cards s), faults-total (cards (entered s (take n bytes)))))
+    (λ v l f. omega (arith, entered-total s (g .fair) (take n bytes) (valid-serial bytes n v) l f filings, faults-total (cards s), faults-total (cards (entered s (take n bytes)))))
 faults-act s g (file bytes n day code) =
     file-cases s g bytes n (λ r. faultsHeld (r .store) + since gone (event (file bytes n day code) r ∷ []) 0 ≡ faultsHeld s + since taken (event (file bytes n day code) r ∷ []) 0) day code
     (λ v. refl) (λ v w. refl) (λ v w l. refl) (λ v w l f. refl)
@@ -91,7 +91,7 @@ faults-act s g (show bytes n room) =
 faults-act s g (withdraw bytes n room) =
     withdraw-cases s g bytes n (λ r. faultsHeld (r .store) + since gone (event (withdraw bytes n room) r ∷ []) 0 ≡ faultsHeld s + since taken (event (withdraw bytes n room) r ∷ []) 0) room
     (λ v. refl) (λ v l. refl) (λ v l f. refl)
-    (λ v l f. omega (arith, withdrawn-total s g (take n bytes) filings, faults-total (look s (take n bytes)), faults-total (cards s), faults-total (cards (withdrawn s (take n bytes)))))
+    (λ v l f. omega (arith, withdrawn-total s (g .fair) (take n bytes) filings, faults-total (look s (take n bytes)), faults-total (cards s), faults-total (cards (withdrawn s (take n bytes)))))
 
 -- events one behind another
 

@@ -27,3 +27,6 @@ pub mod Cases
 pub mod Numbers
 pub mod Demand3
 pub mod Demand2
+-- The demands on words
+pub mod Outcomes
+pub mod Demands

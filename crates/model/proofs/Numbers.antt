@@ -11,14 +11,15 @@ use Rattle.rules.proofs.Tests.{not-both}
 use Rattle.model.specs.Serial.{validSerial, validFault}
 use Rattle.model.specs.Model.{Store, held, faultsHeld, historyIn}
 use Rattle.model.specs.Calls.{enterStep, fileStep, showStep, withdrawStep}
+use Rattle.model.specs.Runs.{Act, Act.enter, Act.file, Act.show, Act.withdraw, perform}
 use Rattle.model.proofs.Fair.{Good}
 use Rattle.model.proofs.Look.{look}
 use Rattle.model.proofs.Cases.{enter-cases, file-cases, show-cases, withdraw-cases}
 
-hit : {A B : Type 0} → A → B → A ↔ B
+pub hit : {A B : Type 0} → A → B → A ↔ B
 hit a b = (λ x. b, λ y. a)
 
-miss : {A B : Type 0} → (A → ⊥) → (B → ⊥) → A ↔ B
+pub miss : {A B : Type 0} → (A → ⊥) → (B → ⊥) → A ↔ B
 miss f g = (λ x. absurd (f x), λ y. absurd (g y))
 
 pub record EnterNumbers (s : Store) (bytes : List ℕ) (n k : ℕ) : Type 0 where
@@ -150,3 +151,15 @@ module _ (s : Store) (bytes : List ℕ) (n : ℕ) (room : List ℕ) where
 
   pub withdraw-numbers : Good s → PairsNumbers s bytes n room (withdrawStep s bytes n room .answer .number)
   withdraw-numbers g = withdraw-cases s g bytes n (λ r. PairsNumbers s bytes n room (r .answer .number)) room invalid missing small done
+
+-- no act on a good store gives 3 or 11, which stand for its words and its scratch
+pub act-numbers : (s : Store) → Good s → (a : Act) → (perform s a .answer .number ≡ 3 → ⊥) × (perform s a .answer .number ≡ 11 → ⊥)
+act-numbers s g (enter bytes n) =
+    enter-cases s g bytes n (λ r. (r .answer .number ≡ 3 → ⊥) × (r .answer .number ≡ 11 → ⊥)) (λ v. omega arith) (λ v l. omega arith) (λ v l f. omega arith) (λ v l f. omega arith)
+act-numbers s g (file bytes n day code) =
+    file-cases s g bytes n (λ r. (r .answer .number ≡ 3 → ⊥) × (r .answer .number ≡ 11 → ⊥)) day code
+    (λ v. omega arith) (λ v w. omega arith) (λ v w l. omega arith) (λ v w l f. omega arith) (λ v w l f. omega arith)
+act-numbers s g (show bytes n room) =
+    show-cases s g bytes n (λ r. (r .answer .number ≡ 3 → ⊥) × (r .answer .number ≡ 11 → ⊥)) room (λ v. omega arith) (λ v l. omega arith) (λ v l f. omega arith) (λ v l f. omega arith)
+act-numbers s g (withdraw bytes n room) =
+    withdraw-cases s g bytes n (λ r. (r .answer .number ≡ 3 → ⊥) × (r .answer .number ≡ 11 → ⊥)) room (λ v. omega arith) (λ v l. omega arith) (λ v l f. omega arith) (λ v l f. omega arith)
