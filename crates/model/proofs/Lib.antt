@@ -15,18 +15,17 @@ pub mod Serials
 pub mod Decode
 pub mod Sound
 pub mod Fresh
--- What each step does to it, the auditor's second question, and a chain cut at a card
+-- What each step does to a store, the auditor's second question, and a chain cut at a card
 pub mod Look
 pub mod Steps
 pub mod Growth
 pub mod Accepted
 pub mod Audit
 pub mod Cut
--- The four steps by their numbers
+-- The four calls by their numbers, and the demands: of the store as lists, then of its words
 pub mod Cases
 pub mod Numbers
 pub mod Demand3
 pub mod Demand2
--- The demands on words
 pub mod Outcomes
 pub mod Demands
