@@ -15,7 +15,7 @@ pub mod Serials
 pub mod Decode
 pub mod Sound
 pub mod Fresh
--- What each step does to a store, the auditor's second question, and a chain cut at a card
+-- What each step does to it, the auditor's second question, and a chain cut at a card
 pub mod Look
 pub mod Steps
 pub mod Growth
