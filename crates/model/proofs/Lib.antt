@@ -9,3 +9,23 @@ pub mod Writes
 pub mod Lend
 -- The store as facts
 pub mod Fair
+-- The words of a store
+pub mod Rep
+pub mod Serials
+pub mod Decode
+pub mod Sound
+pub mod Fresh
+-- What each step does to it, the auditor's second question, and a chain cut at a card
+pub mod Look
+pub mod Steps
+pub mod Growth
+pub mod Accepted
+pub mod Audit
+pub mod Cut
+-- The four calls by their numbers, and the demands: of the store as lists, then of its words
+pub mod Cases
+pub mod Numbers
+pub mod Demand3
+pub mod Demand2
+pub mod Outcomes
+pub mod Demands
