@@ -9,3 +9,9 @@ pub mod Writes
 pub mod Lend
 -- The store as facts
 pub mod Fair
+-- The words of a store
+pub mod Rep
+pub mod Serials
+pub mod Decode
+pub mod Sound
+pub mod Fresh
