@@ -1,5 +1,6 @@
 -- Laws that know nothing of cards
 pub mod Lists
+pub mod Tables
 pub mod Sums
 pub mod Each
 pub mod Places
@@ -15,3 +16,6 @@ pub mod Serials
 pub mod Decode
 pub mod Sound
 pub mod Fresh
+-- What soundness means
+pub mod Walks
+pub mod Meaning
