@@ -19,3 +19,10 @@ pub mod Fresh
 -- What soundness means
 pub mod Walks
 pub mod Meaning
+-- What each step does to it, the auditor's second question, and a chain cut at a card
+pub mod Look
+pub mod Steps
+pub mod Growth
+pub mod Accepted
+pub mod Audit
+pub mod Cut
