@@ -3,12 +3,11 @@
 use mathlib.Core.Path.{_≡_, refl, sym, ap, _∙_, subst}
 use mathlib.Core.List.{List, [], _∷_, _++_, map}
 use mathlib.Core.Bool.{true}
-use Prim.Native.Nat.{ℕ, zero, suc, _+_, _-_, _<_}
-use native.Mathlib.Nat.{zero-add}
+use Prim.Native.Nat.{ℕ, suc, _+_, _-_, _≤_, _<_}
 use native.Mathlib.Omega.{arith}
 use lib.Dec.{lit<}
-use lib.ListN.{length, getD, take, replicate, List·getD-append, length-map, List·getD-map}
-use lib.Seq.{getD-append-add, ext-getD}
+use lib.ListN.{length, getD, take, replicate, getD-replicate, List·getD-append, length-map, List·getD-map}
+use lib.Seq.{getD-append-add}
 use Rattle.rules.specs.Table.{top}
 use Rattle.rules.proofs.Tests.{both}
 use Rattle.model.specs.Lists.{all, from}
@@ -16,26 +15,12 @@ use Rattle.model.specs.Serial.{serialOk}
 use Rattle.model.specs.Model.{Store, Card, Fault, cards, size, bucket, cellsOf, faultCellsOf}
 use Rattle.model.specs.Layout.{Cell, headOr, chained, cellAt, atsOf, cardWidth, faultWidth, segmentsAt, cardCell, faultCell, freeCell, cardChains, faultChains, cardsAt, faultsAt, header, directory, segments, front, first, follow, cardWord, faultWord, readFault, readCard, readChain, decode, goodCard}
 use Rattle.model.proofs.Lists.{Every, every-join, at-every, every-map}
+use Rattle.model.proofs.Tables.{table-is}
 use Rattle.model.proofs.Chains.{Stands, Stand}
 use Rattle.model.proofs.Part.{cellIn, held-follow}
+use Rattle.model.proofs.Fair.{Fair}
 use Rattle.model.proofs.Rep.{Rep, rep-front, size-top}
 use Rattle.model.proofs.Serials.{serial-read}
-
--- lists that are tables
-
-length-table : {A : Type 0} (f : ℕ → A) (a n : ℕ) → length (map f (from a n)) ≡ n
-length-table f a zero = refl
-length-table f a (suc n) = ap suc (length-table f (suc a) n)
-
-table-at : {A : Type 0} (f : ℕ → A) (a n : ℕ) (d : A) (i : ℕ) → i < n → getD (map f (from a n)) i d ≡ f (a + i)
-table-at f a zero d i h = absurd (omega arith)
-table-at f a (suc n) d zero h = let e : a ≡ a + 0 = omega arith in ap f e
-table-at f a (suc n) d (suc i) h = let e : suc a + i ≡ a + suc i = omega arith in table-at f (suc a) n d i (omega arith) ∙ ap f e
-
-pub table-is : {A : Type 0} (f : ℕ → A) (n : ℕ) (d : A) (l : List A) → length l ≡ n → ((i : ℕ) → i < n → f i ≡ getD l i d) → map f (from 0 n) ≡ l
-table-is f n d l e h =
-    ext-getD d (map f (from 0 n)) l (length-table f 0 n ∙ sym e)
-    (λ i b. let c : i < n = omega (arith, length-table f 0 n) in table-at f 0 n d i c ∙ ap f (zero-add i) ∙ h i c)
 
 -- heads
 
@@ -59,18 +44,34 @@ unfolding freeCell
 ats-free width [] = refl
 ats-free width (x ∷ xs) = ap (λ (l : List ℕ). x ∷ l) (ats-free width xs)
 
--- the word of a bucket in use
-pub segment-at : (s : Store) (b : ℕ) → b < length (s .buckets) → getD (front s) (segmentsAt + b) 0 ≡ headOr 0 (map cardCell (bucket s b))
-unfolding front segments header directory
-segment-at s b h =
-    let f : List Card → ℕ = λ b. first (cellsOf b) in
+-- the word of a bucket in use, and of one that is not
+
+pub segments-from : (s : Store) (b : ℕ) → getD (front s) (segmentsAt + b) 0 ≡ getD (segments s) b 0
+unfolding front header directory
+segments-from s b =
     let e : segmentsAt + b ≡ length (header s) + (length (directory s) + b) = omega arith in
     ap (λ (m : ℕ). getD (front s) m 0) e
     ∙ getD-append-add (header s) (directory s ++ segments s) (length (directory s) + b) 0
     ∙ getD-append-add (directory s) (segments s) b 0
+
+pub segment-at : (s : Store) (b : ℕ) → b < length (s .buckets) → getD (front s) (segmentsAt + b) 0 ≡ headOr 0 (map cardCell (bucket s b))
+unfolding segments
+segment-at s b h =
+    let f : List Card → ℕ = λ b. first (cellsOf b) in
+    segments-from s b
     ∙ List·getD-append (map f (s .buckets)) (replicate (top - size s) 0) 0 b (omega (arith, length-map (s .buckets) f))
     ∙ List·getD-map f (s .buckets) b []
     ∙ head-cards (bucket s b)
+
+pub segment-past : (s : Store) (b : ℕ) → Fair s → size s ≤ b → b < top → getD (front s) (segmentsAt + b) 0 ≡ 0
+unfolding segments
+segment-past s b r h t =
+    let f : List Card → ℕ = λ b. first (cellsOf b) in
+    let e : b ≡ length (map f (s .buckets)) + (b - size s) = omega (arith, length-map (s .buckets) f, r .number) in
+    segments-from s b
+    ∙ ap (λ (m : ℕ). getD (segments s) m 0) e
+    ∙ getD-append-add (map f (s .buckets)) (replicate (top - size s) 0) (b - size s) 0
+    ∙ getD-replicate (top - size s) (b - size s) 0 0 (omega arith)
 
 module _ (w : List ℕ) (s : Store) (r : Rep w s) where
   pub limit-at : getD w 1 0 ≡ s .limit

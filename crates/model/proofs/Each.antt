@@ -1,18 +1,18 @@
 -- n cells, all from 1 to n and none twice, are all of them (the pigeonhole principle, by adding up counts).
 use mathlib.Core.Path.{_≡_, refl, sym, ap, _∙_}
-use mathlib.Core.Logic.{_⊎_, inl, inr, ⊎-elim, _↔_}
-use mathlib.Core.List.{List, [], _∷_, _++_, map}
-use mathlib.Core.Bool.{Bool, true, false, _&&_, cond, false≢true}
+use mathlib.Core.Logic.{⊎-elim}
+use mathlib.Core.List.{List, [], _∷_}
+use mathlib.Core.Bool.{true, _&&_}
 use Prim.Native.Nat.{ℕ, zero, suc, _+_, _≤_, _<_}
 use native.Mathlib.Omega.{arith}
-use lib.Dec.{eqb, leb}
-use lib.ListN.{length, getD, set}
-use borrow.Author.Tests.{eqb-true, eqb-false, eq-eqb, ne-eqb, leb-true, le-leb}
+use lib.Dec.{eqb}
+use lib.ListN.{length}
+use borrow.Author.Tests.{eqb-true, eq-eqb}
 use Rattle.model.specs.Lists.{all, between, distinct, total}
 use Rattle.model.specs.Layout.{Cell, atsOf, eachOnce}
 use Rattle.rules.proofs.Tests.{eq?, both, all-of}
 use Rattle.model.proofs.Lists.{between-is}
-use Rattle.model.proofs.Sums.{count, bit, bit-le, bit-same, bit-other, eqb-is, distinct-total, total-distinct}
+use Rattle.model.proofs.Sums.{count, bit, bit-same, bit-other, eqb-is, distinct-total, total-distinct}
 
 -- f 1 to f n
 sum : ℕ → (ℕ → ℕ) → ℕ
@@ -60,6 +60,20 @@ sum-tally n (x ∷ xs) r =
     let h = r x (omega (arith, bit-same x x refl)) in
     omega (arith, sum-add n (λ i. bit (eqb i x)) (λ i. count i xs), sum-bit n x (h .0) (h .1), sum-tally n xs (λ i k. r i (omega arith)))
 
+-- the pigeonhole principle: n numbers from 1 to n, none twice, are all of them
+pub count-cover : (n : ℕ) (l : List ℕ) → ((i : ℕ) → 0 < count i l → (1 ≤ i) × (i ≤ n)) → ((i : ℕ) → count i l ≤ 1) → length l ≡ n
+    → (i : ℕ) → 1 ≤ i → i ≤ n → count i l ≡ 1
+count-cover n l r o e = sum-full n (λ i. count i l) o (omega (arith, sum-tally n l r))
+
+-- and numbers from 1 to n, each of them once, are n
+sum-ones : (n : ℕ) (f : ℕ → ℕ) → ((i : ℕ) → 1 ≤ i → i ≤ n → f i ≡ 1) → sum n f ≡ n
+unfolding sum
+sum-ones zero f h = refl
+sum-ones (suc n) f h = omega (arith, h (suc n) (omega arith) (omega arith), sum-ones n f (λ i a b. h i a (omega arith)))
+
+pub count-full : (n : ℕ) (l : List ℕ) → ((i : ℕ) → 0 < count i l → (1 ≤ i) × (i ≤ n)) → ((i : ℕ) → 1 ≤ i → i ≤ n → count i l ≡ 1) → length l ≡ n
+count-full n l r f = sym (sum-tally n l r) ∙ sum-ones n (λ i. count i l) f
+
 -- the tests
 
 all-tally : (n : ℕ) (l : List ℕ) → all (between 1 n) l ≡ true → (i : ℕ) → 0 < count i l → (1 ≤ i) × (i ≤ n)
@@ -94,12 +108,10 @@ pub record Each (n : ℕ) (cs : List Cell) : Type 0 where
   pub inside : (i : ℕ) → 0 < many i cs → (1 ≤ i) × (i ≤ n)
   pub count : length cs ≡ n
 
--- the pigeonhole principle
 pub cover : {n : ℕ} {cs : List Cell} → Each n cs → (i : ℕ) → 1 ≤ i → i ≤ n → many i cs ≡ 1
 cover {n} {cs} r i a b =
     sym (many-ats i cs)
-    ∙ sum-full n (λ i. count i (atsOf cs)) (λ i. omega (arith, many-ats i cs, r .once i))
-    (omega (arith, sum-tally n (atsOf cs) (λ i h. r .inside i (omega (arith, many-ats i cs))), length-ats cs, r .count)) i a b
+    ∙ count-cover n (atsOf cs) (λ i h. r .inside i (omega (arith, many-ats i cs))) (λ i. omega (arith, many-ats i cs, r .once i)) (length-ats cs ∙ r .count) i a b
 
 pub each-is : (n : ℕ) (cs : List Cell) → eachOnce n (atsOf cs) ≡ true → Each n cs
 unfolding eachOnce

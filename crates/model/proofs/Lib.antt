@@ -1,5 +1,6 @@
 -- Laws that know nothing of cards
 pub mod Lists
+pub mod Tables
 pub mod Sums
 pub mod Each
 pub mod Places
@@ -15,6 +16,9 @@ pub mod Serials
 pub mod Decode
 pub mod Sound
 pub mod Fresh
+-- What soundness means
+pub mod Walks
+pub mod Meaning
 -- What each step does to it, the auditor's second question, and a chain cut at a card
 pub mod Look
 pub mod Steps

@@ -64,11 +64,11 @@ wide-fault-chains s (suc j) = go (cards s) j
     go (c ∷ cs) zero = wide-faults (c .faults)
     go (c ∷ cs) (suc j) = go cs j
 
-segments-length : (s : Store) → Fair s → length (segments s) ≡ top
+pub segments-length : (s : Store) → Fair s → length (segments s) ≡ top
 unfolding segments
 segments-length s r = simp (length-append, length-map, length-replicate) (omega (arith, r .number, size-top s r))
 
-pub front-length : (s : Store) → Fair s → length (front s) ≡ cardsAt
+front-length : (s : Store) → Fair s → length (front s) ≡ cardsAt
 unfolding front header directory cardsAt
 front-length s r = omega (arith, segments-length s r)
 
