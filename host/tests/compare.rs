@@ -1,29 +1,10 @@
 //! The library's two functions against the second program's, on inputs chosen at every edge and on random ones.
 use reader_host::{address, code, NO_ADDRESS};
+use reference::random::Random;
 use reference::rules as second;
 
 /// The five sizes of a table.
 const SIZES: [u32; 5] = [16, 32, 64, 128, 256];
-
-/// Random numbers that are the same in each run (xorshift, 64 bits).
-struct Random(u64);
-
-impl Random {
-    fn number(&mut self) -> u64 {
-        self.0 ^= self.0 << 13;
-        self.0 ^= self.0 >> 7;
-        self.0 ^= self.0 << 17;
-        self.0
-    }
-
-    fn word(&mut self) -> u32 {
-        (self.number() >> 32) as u32
-    }
-
-    fn bytes(&mut self, length: usize) -> Vec<u8> {
-        (0..length).map(|_| (self.number() >> 56) as u8).collect()
-    }
-}
 
 fn same_code(bytes: &[u8]) {
     let shown = &bytes[..bytes.len().min(40)];
@@ -100,7 +81,7 @@ fn codes_of_all_256_bytes_at_once() {
 
 #[test]
 fn codes_of_long_slices() {
-    let mut random = Random(0x5eed_0001);
+    let mut random = Random::new(0x5eed_0001);
     for length in [4_095, 4_096, 65_536, 1_000_003] {
         same_code(&vec![0; length]);
         same_code(&vec![255; length]);
@@ -110,7 +91,7 @@ fn codes_of_long_slices() {
 
 #[test]
 fn codes_of_random_slices() {
-    let mut random = Random(0x5eed_0002);
+    let mut random = Random::new(0x5eed_0002);
     for length in 0..=300 {
         for _ in 0..20 {
             same_code(&random.bytes(length));
@@ -120,7 +101,7 @@ fn codes_of_random_slices() {
 
 #[test]
 fn a_code_reads_its_slice_alone() {
-    let mut random = Random(0x5eed_0003);
+    let mut random = Random::new(0x5eed_0003);
     let inner = random.bytes(33);
     for start in 0..20 {
         let around = [random.bytes(start), inner.clone(), random.bytes(20)].concat();
@@ -130,7 +111,7 @@ fn a_code_reads_its_slice_alone() {
 
 #[test]
 fn addresses_in_every_state() {
-    let mut random = Random(0x5eed_0004);
+    let mut random = Random::new(0x5eed_0004);
     for state in second::states() {
         for code in 0..=1_024 {
             same_address(code, state.maxp, state.p);
@@ -143,7 +124,7 @@ fn addresses_in_every_state() {
 
 #[test]
 fn addresses_at_the_edges_of_the_sizes() {
-    let mut random = Random(0x5eed_0005);
+    let mut random = Random::new(0x5eed_0005);
     for maxp in SIZES {
         same_at_edges(maxp, &mut random);
         same_at_edges(maxp - 1, &mut random);
@@ -153,7 +134,7 @@ fn addresses_at_the_edges_of_the_sizes() {
 
 #[test]
 fn addresses_of_sizes_that_are_none() {
-    let mut random = Random(0x5eed_0006);
+    let mut random = Random::new(0x5eed_0006);
     for maxp in [0, 1, 2, 4, 8, 24, 48, 96, 192, 240, 512, 1_024, 1 << 16, 1 << 31, u32::MAX - 15, u32::MAX] {
         same_at_edges(maxp, &mut random);
         for p in edge_ps(maxp) {
@@ -164,7 +145,7 @@ fn addresses_of_sizes_that_are_none() {
 
 #[test]
 fn addresses_of_all_small_pairs() {
-    let mut random = Random(0x5eed_0007);
+    let mut random = Random::new(0x5eed_0007);
     for maxp in 0..=520 {
         for p in 0..=260 {
             same_address(random.word(), maxp, p);
@@ -174,10 +155,10 @@ fn addresses_of_all_small_pairs() {
 
 #[test]
 fn addresses_of_random_numbers() {
-    let mut random = Random(0x5eed_0008);
+    let mut random = Random::new(0x5eed_0008);
     for _ in 0..20_000 {
         same_address(random.word(), random.word(), random.word());
-        let maxp = SIZES[random.word() as usize % SIZES.len()];
+        let maxp = SIZES[random.below(SIZES.len())];
         same_address(random.word(), maxp, random.word() % (maxp + 2));
     }
 }

@@ -1,4 +1,4 @@
-//! The serial code and the address rule.
+//! The serial code, the address rule and the load rules.
 
 /// The address rule's answer where (maxp, p) is no state of a table.
 pub const NO_ADDRESS: u32 = u32::MAX;
@@ -30,9 +30,8 @@ pub struct State {
 impl State {
     pub const FRESH: State = State { maxp: LEAST_BUCKETS, p: 0 };
 
-    /// Also for numbers that are no state, where the sum may pass 32 bits.
-    pub fn buckets(self) -> u64 {
-        u64::from(self.maxp) + u64::from(self.p)
+    pub fn buckets(self) -> u32 {
+        self.maxp + self.p
     }
 
     /// The state after one split.
@@ -42,6 +41,16 @@ impl State {
             State { maxp: 2 * self.maxp, p: 0 }
         } else {
             State { p, ..self }
+        }
+    }
+
+    /// The state after one contraction.
+    pub fn shrunk(self) -> State {
+        if self.p == 0 {
+            let maxp = self.maxp / 2;
+            State { maxp, p: maxp - 1 }
+        } else {
+            State { p: self.p - 1, ..self }
         }
     }
 }
@@ -72,10 +81,24 @@ pub fn address(code: u32, maxp: u32, p: u32) -> u32 {
 
 /// Where a card of this code and bucket stands after the split of bucket p in this state.
 fn bucket_after_split(code: u32, bucket: u32, state: State) -> u32 {
-    let new = state.maxp + state.p;
-    if bucket == state.p && code % (2 * state.maxp) == new {
-        new
+    if bucket == state.p && moves(code, state) {
+        state.buckets()
     } else {
         bucket
     }
+}
+
+/// Whether a split in this state takes a card of bucket p with this code to the new bucket.
+pub fn moves(code: u32, state: State) -> bool {
+    code % (2 * state.maxp) == state.maxp + state.p
+}
+
+/// Whether n cards are too many for the buckets of this state.
+pub fn splits(n: usize, state: State) -> bool {
+    n > 4 * state.buckets() as usize
+}
+
+/// Whether n cards are too few for the buckets of this state. The least table never contracts.
+pub fn contracts(n: usize, state: State) -> bool {
+    n < 2 * state.buckets() as usize && state.buckets() > LEAST_BUCKETS
 }
