@@ -3,3 +3,11 @@ mod cells;
 mod marks;
 mod serial;
 mod walks;
+
+// What each of the four calls gives.
+pub struct Answer {
+    pub number: u32,
+    pub comparisons: u32,
+    pub scanned: u32,
+    pub faults: u32,
+}
