@@ -8,11 +8,11 @@ use borrow.Author.Tests.{eq-eqb, ne-eqb}
 use lib.Dec.{eqb}
 use lib.ListN.{length, getD}
 use Rattle.rules.specs.Table.{top}
-use Rattle.model.specs.Lists.{between, all, from}
+use Rattle.model.specs.Lists.{between}
 use Rattle.model.specs.Layout.{cardsAt, faultsAt, cellAt, cardWord, faultWord}
 use Rattle.store.specs.Cells.{Sized, limitOf, widthOf, cellWord, sameKey, metFirst, freeFits}
 use Rattle.store.specs.Checker.{reachOf}
-use Rattle.store.proofs.Rows.{run-more, run-fails, run-ends}
+use Rattle.store.proofs.Rows.{testFrom}
 
 -- the code's own sums are the places of the words
 pub card-place : (w : List ℕ) (i k : ℕ) → getD w (288 + 9 * (i - 1) + k) 0 ≡ cardWord w i k
@@ -76,23 +76,18 @@ pub met-end : (w : List ℕ) (j i c n : ℕ) → c ≤ n → metFirst (c - n) w 
 unfolding metFirst
 met-end w j i c n h = let z : c - n ≡ 0 = omega arith in rw z
 
--- the words of a cell from k on up to the end e are zero
-unfoldable pub zeroFrom : List ℕ → Bool → ℕ → ℕ → ℕ → Bool
-zeroFrom w faults i k e = all (λ k. eqb (cellWord w faults i k) 0) (from k (e - k))
+-- a word of a free cell, and all of them
+unfoldable pub zeroAt : List ℕ → Bool → ℕ → ℕ → Bool
+zeroAt w faults i k = eqb (cellWord w faults i k) 0
 
-module _ (w : List ℕ) (faults : Bool) (i : ℕ) where
-  pub zero-start : {e : ℕ} → e ≡ widthOf faults → zeroFrom w faults i 1 e ≡ freeFits w faults i
-  unfolding zeroFrom freeFits
-  zero-start z = rw z
+pub zero-start : (w : List ℕ) (faults : Bool) (i : ℕ) {e : ℕ} → e ≡ widthOf faults → testFrom (zeroAt w faults i) 1 e ≡ freeFits w faults i
+unfolding testFrom zeroAt freeFits
+zero-start w faults i z = rw z
 
-  pub zero-more : (k e : ℕ) → k < e → cellWord w faults i k ≡ 0 → zeroFrom w faults i (k + 1) e ≡ zeroFrom w faults i k e
-  unfolding zeroFrom
-  zero-more k e h z = run-more (λ k. eqb (cellWord w faults i k) 0) k e h (eq-eqb _ 0 z)
+pub zero-here : (w : List ℕ) (faults : Bool) (i k : ℕ) → cellWord w faults i k ≡ 0 → zeroAt w faults i k ≡ true
+unfolding zeroAt
+zero-here w faults i k z = eq-eqb _ 0 z
 
-  pub zero-fails : (k e : ℕ) → k < e → (cellWord w faults i k ≡ 0 → ⊥) → zeroFrom w faults i k e ≡ false
-  unfolding zeroFrom
-  zero-fails k e h z = run-fails (λ k. eqb (cellWord w faults i k) 0) k e h (ne-eqb _ 0 z)
-
-  pub zero-ends : (k e : ℕ) → e ≤ k → zeroFrom w faults i k e ≡ true
-  unfolding zeroFrom
-  zero-ends k e h = run-ends (λ k. eqb (cellWord w faults i k) 0) k e h
+pub zero-not : (w : List ℕ) (faults : Bool) (i k : ℕ) → (cellWord w faults i k ≡ 0 → ⊥) → zeroAt w faults i k ≡ false
+unfolding zeroAt
+zero-not w faults i k z = ne-eqb _ 0 z

@@ -20,12 +20,20 @@ or-holds r h = ap (λ (t : Bool). t || r) h
 pub or-rest : {a : Bool} (r : Bool) → a ≡ false → (a || r) ≡ r
 or-rest r h = ap (λ (t : Bool). t || r) h
 
--- a loop that tests f at each number from k up to e: one more passes, one fails, none is left
-pub run-more : (f : ℕ → Bool) (k e : ℕ) → k < e → f k ≡ true → all f (from (k + 1) (e - (k + 1))) ≡ all f (from k (e - k))
-run-more f k e h t = let z : e - k ≡ suc (e - (k + 1)) = omega arith in rw (z, add-one) (sym (and-rest (all f (from (suc k) (e - suc k))) t))
+-- f passes at each number from k up to e
+unfoldable pub testFrom : (ℕ → Bool) → ℕ → ℕ → Bool
+testFrom f k e = all f (from k (e - k))
 
-pub run-fails : (f : ℕ → Bool) (k e : ℕ) → k < e → f k ≡ false → all f (from k (e - k)) ≡ false
-run-fails f k e h t = let z : e - k ≡ suc (e - (k + 1)) = omega arith in rw z (and-fails (all f (from (suc k) (e - (k + 1)))) t)
+-- a loop that tests f at each of them: one more passes, one fails, none is left
+module _ (f : ℕ → Bool) (k e : ℕ) where
+  pub test-more : k < e → f k ≡ true → testFrom f (k + 1) e ≡ testFrom f k e
+  unfolding testFrom
+  test-more h t = let z : e - k ≡ suc (e - (k + 1)) = omega arith in rw (z, add-one) (sym (and-rest (all f (from (suc k) (e - suc k))) t))
 
-pub run-ends : (f : ℕ → Bool) (k e : ℕ) → e ≤ k → all f (from k (e - k)) ≡ true
-run-ends f k e h = let z : e - k ≡ 0 = omega arith in rw z
+  pub test-fails : k < e → f k ≡ false → testFrom f k e ≡ false
+  unfolding testFrom
+  test-fails h t = let z : e - k ≡ suc (e - (k + 1)) = omega arith in rw z (and-fails (all f (from (suc k) (e - (k + 1)))) t)
+
+  pub test-ends : e ≤ k → testFrom f k e ≡ true
+  unfolding testFrom
+  test-ends h = let z : e - k ≡ 0 = omega arith in rw z

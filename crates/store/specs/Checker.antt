@@ -16,11 +16,12 @@ use Rattle.store.specs.Walk.{Out, Start, Tot, walkOf, walksFrom}
 unfoldable pub limitsFit : List ℕ → Bool
 limitsFit w = leb cardsAt (length w) && (eqb (getD w 0 0) format && (limitsOk (getD w 1 0) (getD w 2 0) && eqb (length w) (lengthFor (getD w 1 0) (getD w 2 0))))
 
--- words 9 to 15
+-- words 12 to 15, and words 9 to 15
+abbrev pub endsFit : List ℕ → Bool
+endsFit w = eqb (getD w 12 0) (faultsAt (getD w 1 0)) && (eqb (getD w 13 0) (lengthFor (getD w 1 0) (getD w 2 0)) && (eqb (getD w 14 0) 0 && eqb (getD w 15 0) 0))
+
 unfoldable pub offsetsFit : List ℕ → Bool
-offsetsFit w =
-    eqb (getD w 9 0) directoryAt && (eqb (getD w 10 0) segmentsAt && (eqb (getD w 11 0) cardsAt && (eqb (getD w 12 0) (faultsAt (getD w 1 0))
-    && (eqb (getD w 13 0) (lengthFor (getD w 1 0) (getD w 2 0)) && (eqb (getD w 14 0) 0 && eqb (getD w 15 0) 0)))))
+offsetsFit w = eqb (getD w 9 0) directoryAt && (eqb (getD w 10 0) segmentsAt && (eqb (getD w 11 0) cardsAt && endsFit w))
 
 -- the load of the cards that word 5 says are held
 unfoldable pub loadFits : ℕ → ℕ → Bool
@@ -37,11 +38,15 @@ directoryFits w b = all (λ k. eqb (getD w (directoryAt + k) 0) (entryFor b k)) 
 unfoldable pub restFits : List ℕ → ℕ → Bool
 restFits w b = all (λ j. eqb (getD w (segmentsAt + j) 0) 0) (from b (top - b))
 
+-- the load, the directory and the bucket words past b buckets
+abbrev pub tableFits : List ℕ → ℕ → Bool
+tableFits w b = loadFits (getD w 5 0) b && (directoryFits w b && restFits w b)
+
 -- all words before the cells but the chains' first cells
 unfoldable pub frontFits : List ℕ → Bool
 frontFits w =
     let b = getD w 3 0 + getD w 4 0 in
-    limitsFit w && (stateOk (getD w 3 0) (getD w 4 0) && (offsetsFit w && (loadFits (getD w 5 0) b && (directoryFits w b && restFits w b))))
+    limitsFit w && (stateOk (getD w 3 0) (getD w 4 0) && (offsetsFit w && tableFits w b))
 
 -- the chains of a part beside the free one: bucket j, or the history of card j + 1 with its count and last fault
 unfoldable pub firstOf : List ℕ → Bool → ℕ → ℕ

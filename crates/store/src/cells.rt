@@ -38,6 +38,20 @@ pub fn word(w: &[u32], at: usize) -> u32
     w[at]
 }
 
+// The same as a number to index by.
+pub fn wide_word(w: &[u32], at: usize) -> usize
+    requires { ⌜ at < length (now w) ⌝ }
+    ensures { λ r. ⌜ r ≡ getD (now (w .entry)) at 0 ⌝ }
+{
+    wide(w[at])
+}
+
+fn wide(x: u32) -> usize
+    ensures { λ r. ⌜ r ≡ x ⌝ }
+{
+    x as usize
+}
+
 // Word k of card cell i.
 pub fn card_word(w: &[u32], c: u32, f: u32, i: u32, k: usize) -> u32
     requires { ⌜ Sized (now w) c f × (1 ≤ i) × (i ≤ c) × (k < cardWidth) ⌝ }

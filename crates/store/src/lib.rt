@@ -1,5 +1,6 @@
 // The store of cards: Open, the four calls, and the checker of soundness.
 mod cells;
+mod front;
 mod marks;
 mod serial;
 mod walks;

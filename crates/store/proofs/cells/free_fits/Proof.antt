@@ -4,14 +4,14 @@ use Prim.Native.Nat.{_≤_, _-_}
 use native.Mathlib.Omega.{arith}
 use borrow.Author.Needs.{needs}
 use Rattle.store.specs.Cells.{widthOf, cellWord, freeFits}
-use Rattle.store.proofs.Rows.{run-more, run-fails, run-ends}
-use Rattle.store.proofs.CellLaws.{width-most, zeroFrom, zero-start, zero-more, zero-fails, zero-ends}
+use Rattle.store.proofs.Rows.{testFrom, test-more, test-fails, test-ends}
+use Rattle.store.proofs.CellLaws.{width-most, zeroAt, zero-start, zero-here, zero-not}
 use Rattle.store.proofs.cells.free_fits.Statement.{statement}
 use Rattle.store.proofs.cells.free_fits.Tie as tie
 
 abbrev Inv-loop : tie.InvT-loop
 Inv-loop w c f faults i width k₀ k =
-    (1 ≤ k) × (width ≡ widthOf faults) × (zeroFrom w faults i k width ≡ freeFits w faults i)
+    (1 ≤ k) × (width ≡ widthOf faults) × (testFrom (zeroAt w faults i) k width ≡ freeFits w faults i)
 
 abbrev μ-loop : tie.MeasureT-loop
 μ-loop w c f faults i width k₀ k = width - k
@@ -30,7 +30,7 @@ returns c =
     let a = c .before .before .before .before .before .before .args in
     let l = c .before .before .before .loop in
     let d : cellWord (a .w .now) (a .faults) (a .i) (l .k) ≡ 0 → ⊥ = λ z. c .if1 .taken (c .before .cell-word .ensures ∙ z) in
-    sym (sym (l .inv .2) ∙ zero-fails (a .w .now) (a .faults) (a .i) (l .k) (c .before .before .before .before .width-of .result) (omega arith) d)
+    sym (sym (l .inv .2) ∙ test-fails (zeroAt (a .w .now) (a .faults) (a .i)) (l .k) (c .before .before .before .before .width-of .result) (omega arith) (zero-not (a .w .now) (a .faults) (a .i) (l .k) d))
 
 add-k : tie.Need-add-k Inv-loop μ-loop
 add-k c = omega (arith, width-most (c .before .before .before .before .before .before .args .faults), c .before .before .before .loop .inv .1)
@@ -39,13 +39,13 @@ loop-again : tie.Need-loop-again Inv-loop μ-loop
 loop-again c =
     let a = c .before .before .before .before .before .before .args in
     let l = c .before .before .before .loop in
-    (omega arith, l .inv .1, zero-more (a .w .now) (a .faults) (a .i) (l .k) (c .before .before .before .before .width-of .result) (omega arith) (sym (c .before .cell-word .ensures) ∙ c .if1 .left) ∙ l .inv .2)
+    (omega arith, l .inv .1, test-more (zeroAt (a .w .now) (a .faults) (a .i)) (l .k) (c .before .before .before .before .width-of .result) (omega arith) (zero-here (a .w .now) (a .faults) (a .i) (l .k) (sym (c .before .cell-word .ensures) ∙ c .if1 .left)) ∙ l .inv .2)
 
 returns-2 : tie.Need-returns-2 Inv-loop μ-loop
 returns-2 c =
     let a = c .before .before .before .before .args in
     let l = c .before .loop in
-    sym (sym (l .inv .2) ∙ zero-ends (a .w .now) (a .faults) (a .i) (l .k) (c .before .before .width-of .result) (omega arith))
+    sym (sym (l .inv .2) ∙ test-ends (zeroAt (a .w .now) (a .faults) (a .i)) (l .k) (c .before .before .width-of .result) (omega arith))
 
 pub free-fits-spec : {M : Type 1} → statement M
 free-fits-spec =
