@@ -1,1 +1,2 @@
--- laws of the store
+-- Laws of marks and of walks, that know nothing of cards
+pub mod MarkLaws
