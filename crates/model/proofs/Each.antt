@@ -60,6 +60,20 @@ sum-tally n (x ∷ xs) r =
     let h = r x (omega (arith, bit-same x x refl)) in
     omega (arith, sum-add n (λ i. bit (eqb i x)) (λ i. count i xs), sum-bit n x (h .0) (h .1), sum-tally n xs (λ i k. r i (omega arith)))
 
+-- the pigeonhole principle: n numbers from 1 to n, none twice, are all of them
+pub count-cover : (n : ℕ) (l : List ℕ) → ((i : ℕ) → 0 < count i l → (1 ≤ i) × (i ≤ n)) → ((i : ℕ) → count i l ≤ 1) → length l ≡ n
+    → (i : ℕ) → 1 ≤ i → i ≤ n → count i l ≡ 1
+count-cover n l r o e = sum-full n (λ i. count i l) o (omega (arith, sum-tally n l r))
+
+-- and numbers from 1 to n, each of them once, are n
+sum-ones : (n : ℕ) (f : ℕ → ℕ) → ((i : ℕ) → 1 ≤ i → i ≤ n → f i ≡ 1) → sum n f ≡ n
+unfolding sum
+sum-ones zero f h = refl
+sum-ones (suc n) f h = omega (arith, h (suc n) (omega arith) (omega arith), sum-ones n f (λ i a b. h i a (omega arith)))
+
+pub count-full : (n : ℕ) (l : List ℕ) → ((i : ℕ) → 0 < count i l → (1 ≤ i) × (i ≤ n)) → ((i : ℕ) → 1 ≤ i → i ≤ n → count i l ≡ 1) → length l ≡ n
+count-full n l r f = sym (sum-tally n l r) ∙ sum-ones n (λ i. count i l) f
+
 -- the tests
 
 all-tally : (n : ℕ) (l : List ℕ) → all (between 1 n) l ≡ true → (i : ℕ) → 0 < count i l → (1 ≤ i) × (i ≤ n)
@@ -94,12 +108,10 @@ pub record Each (n : ℕ) (cs : List Cell) : Type 0 where
   pub inside : (i : ℕ) → 0 < many i cs → (1 ≤ i) × (i ≤ n)
   pub count : length cs ≡ n
 
--- the pigeonhole principle
 pub cover : {n : ℕ} {cs : List Cell} → Each n cs → (i : ℕ) → 1 ≤ i → i ≤ n → many i cs ≡ 1
 cover {n} {cs} r i a b =
     sym (many-ats i cs)
-    ∙ sum-full n (λ i. count i (atsOf cs)) (λ i. omega (arith, many-ats i cs, r .once i))
-    (omega (arith, sum-tally n (atsOf cs) (λ i h. r .inside i (omega (arith, many-ats i cs))), length-ats cs, r .count)) i a b
+    ∙ count-cover n (atsOf cs) (λ i h. r .inside i (omega (arith, many-ats i cs))) (λ i. omega (arith, many-ats i cs, r .once i)) (length-ats cs ∙ r .count) i a b
 
 pub each-is : (n : ℕ) (cs : List Cell) → eachOnce n (atsOf cs) ≡ true → Each n cs
 unfolding eachOnce

@@ -1,5 +1,6 @@
 -- Laws that know nothing of cards
 pub mod Lists
+pub mod Tables
 pub mod Sums
 pub mod Each
 pub mod Places
@@ -9,3 +10,6 @@ pub mod Writes
 pub mod Lend
 -- The store as facts
 pub mod Fair
+-- The words of a store
+pub mod Serials
+pub mod Walks

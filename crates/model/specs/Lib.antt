@@ -1,9 +1,10 @@
--- Document 01 as definitions that compute, in its order: serials and faults, the store, the words it stands in, the calls,
+-- Document 01 as definitions that compute, in its order: serials and faults, the store, the words it stands in, what their soundness means, the calls,
 -- the plain list of cards, sequences of calls, the job.
 pub mod Lists
 pub mod Serial
 pub mod Model
 pub mod Layout
+pub mod Meaning
 pub mod Calls
 pub mod Plain
 pub mod Runs

@@ -142,21 +142,22 @@ module _ (good : ℕ → Bool) (next : ℕ → ℕ) (bytes₀ : List ℕ) (base 
           same = sym (walk-step good next base limit bytes i n l (limit - (n + 1)) ne ok) ∙ ap (λ (f : ℕ). walkFrom f good next base limit bytes i n l) (let e : suc (limit - (n + 1)) ≡ limit - n = omega (arith, below) in e) ∙ g .same;
         }
 
--- a fact of a walk by its steps: where it ends, where it stops, and where a cell came and the walk behind it has the fact
-pub walk-all {ℓ} : (P : List ℕ → ℕ → ℕ → ℕ → Out → Type ℓ) (good : ℕ → Bool) (next : ℕ → ℕ) (base limit : ℕ)
-    → ((bytes : List ℕ) (i n l : ℕ) → i ≡ 0 → P bytes i n l (accept n l bytes))
-    → ((bytes : List ℕ) (i n l : ℕ) → P bytes i n l (refuse bytes))
-    → ((bytes : List ℕ) (i n l : ℕ) (o : Out) → (i ≡ 0 → ⊥) → mayCome good bytes base limit i ≡ true → P (markedAt bytes (numberOf base i)) (next i) (n + 1) i o → P bytes i n l o)
-    → (f : ℕ) (bytes : List ℕ) (i n l : ℕ) → P bytes i n l (walkFrom f good next base limit bytes i n l)
+-- a fact of a walk with f cells at most before it, by its steps: where it ends, where it stops, and where a cell came and the walk behind
+-- it has the fact
+pub walk-all {ℓ} : (P : ℕ → List ℕ → ℕ → ℕ → ℕ → Out → Type ℓ) (good : ℕ → Bool) (next : ℕ → ℕ) (base limit : ℕ)
+    → ((f : ℕ) (bytes : List ℕ) (i n l : ℕ) → i ≡ 0 → P f bytes i n l (accept n l bytes))
+    → ((f : ℕ) (bytes : List ℕ) (i n l : ℕ) → P f bytes i n l (refuse bytes))
+    → ((f : ℕ) (bytes : List ℕ) (i n l : ℕ) (o : Out) → (i ≡ 0 → ⊥) → mayCome good bytes base limit i ≡ true → P f (markedAt bytes (numberOf base i)) (next i) (n + 1) i o → P (suc f) bytes i n l o)
+    → (f : ℕ) (bytes : List ℕ) (i n l : ℕ) → P f bytes i n l (walkFrom f good next base limit bytes i n l)
 walk-all P good next base limit ends stops goes zero bytes i n l =
-    ⊎-elim (λ (z : i ≡ 0). subst (P bytes i n l) (sym (walk-end good next base limit bytes i n l zero z)) (ends bytes i n l z))
-    (λ (ne : i ≡ 0 → ⊥). subst (P bytes i n l) (sym (walk-out good next base limit bytes i n l ne)) (stops bytes i n l)) (eq? i 0)
+    ⊎-elim (λ (z : i ≡ 0). subst (P zero bytes i n l) (sym (walk-end good next base limit bytes i n l zero z)) (ends zero bytes i n l z))
+    (λ (ne : i ≡ 0 → ⊥). subst (P zero bytes i n l) (sym (walk-out good next base limit bytes i n l ne)) (stops zero bytes i n l)) (eq? i 0)
 walk-all P good next base limit ends stops goes (suc f) bytes i n l =
     let rest = walk-all P good next base limit ends stops goes f (markedAt bytes (numberOf base i)) (next i) (n + 1) i in
-    ⊎-elim (λ (z : i ≡ 0). subst (P bytes i n l) (sym (walk-end good next base limit bytes i n l (suc f) z)) (ends bytes i n l z))
+    ⊎-elim (λ (z : i ≡ 0). subst (P (suc f) bytes i n l) (sym (walk-end good next base limit bytes i n l (suc f) z)) (ends (suc f) bytes i n l z))
     (λ (ne : i ≡ 0 → ⊥). by-cases (mayCome good bytes base limit i)
-    (λ ok. subst (P bytes i n l) (sym (walk-step good next base limit bytes i n l f ne ok)) (goes bytes i n l _ ne ok rest))
-    (λ bad. subst (P bytes i n l) (sym (walk-bad good next base limit bytes i n l (suc f) ne bad)) (stops bytes i n l))) (eq? i 0)
+    (λ ok. subst (P (suc f) bytes i n l) (sym (walk-step good next base limit bytes i n l f ne ok)) (goes f bytes i n l _ ne ok rest))
+    (λ bad. subst (P (suc f) bytes i n l) (sym (walk-bad good next base limit bytes i n l (suc f) ne bad)) (stops (suc f) bytes i n l))) (eq? i 0)
 
 -- what a walk keeps, whatever it answers
 pub record Kept (base limit : ℕ) (bytes left : List ℕ) : Type 0 where
@@ -187,10 +188,10 @@ module _ (base limit : ℕ) (marks : base + limit ≤ 8 * scratchNeed) where
     pub kept-walk : (bytes : List ℕ) (first : ℕ) → scratchNeed ≤ length bytes → Kept base limit bytes (walkOf good next base limit bytes first .bytes)
     unfolding walkOf
     kept-walk bytes first =
-        walk-all (λ bytes i n l o. scratchNeed ≤ length bytes → Kept base limit bytes (o .bytes)) good next base limit
-        (λ bytes i n l z scratch. kept-none base limit bytes)
-        (λ bytes i n l scratch. kept-none base limit bytes)
-        (λ bytes i n l o ne ok rest scratch.
+        walk-all (λ f bytes i n l o. scratchNeed ≤ length bytes → Kept base limit bytes (o .bytes)) good next base limit
+        (λ f bytes i n l z scratch. kept-none base limit bytes)
+        (λ f bytes i n l scratch. kept-none base limit bytes)
+        (λ f bytes i n l o ne ok rest scratch.
         let h = kept-mark bytes i scratch ne (may-in good base limit bytes i ok) in
         kept-both base limit bytes (markedAt bytes (numberOf base i)) (o .bytes) h (rest (omega arith)))
         limit bytes first 0 0
@@ -201,10 +202,10 @@ module _ (base limit : ℕ) (marks : base + limit ≤ 8 * scratchNeed) where
     unfolding walkOf
     room-walk bytes first scratch ok =
         let r =
-        walk-all (λ bytes i n l o. scratchNeed ≤ length bytes → o .ok ≡ true → n + room base limit bytes ≡ o .count + room base limit (o .bytes)) good next base limit
-        (λ bytes i n l z scratch ok. refl)
-        (λ bytes i n l scratch ok. absurd (false≢true ok))
-        (λ bytes i n l o ne ok rest scratch e.
+        walk-all (λ f bytes i n l o. scratchNeed ≤ length bytes → o .ok ≡ true → n + room base limit bytes ≡ o .count + room base limit (o .bytes)) good next base limit
+        (λ f bytes i n l z scratch ok. refl)
+        (λ f bytes i n l scratch ok. absurd (false≢true ok))
+        (λ f bytes i n l o ne ok rest scratch e.
         let b = may-in good base limit bytes i ok in
         omega (arith, room-mark base limit (i - 1) bytes (omega arith) (omega arith) (may-new good base limit bytes i ok), rest (omega (arith, length-marked bytes (numberOf base i))) e))
         limit bytes first 0 0 scratch ok in

@@ -1,0 +1,175 @@
+-- Members of a list of cells, and walks by next words. A fact of each element is a fact of each number that stands in the list
+-- (`every-in`, `in-every`). A walk that ends makes the cells that are read on it stand as a chain (`led-stand`), and a chain that stands
+-- is such a walk (`stand-led`); a walk that ends within the fuel is what `follow` reads (`led-follow`). Cells that are all in range, none
+-- twice, and as many as there are, are each of them exactly once (`marked-once`), by the pigeonhole principle.
+use mathlib.Core.Path.{_≡_, refl, sym, ap, _∙_, subst}
+use mathlib.Core.Logic.{_⊎_, inl, inr, ⊎-elim}
+use mathlib.Core.List.{List, [], _∷_, _++_, map}
+use mathlib.Core.Bool.{Bool, true, false}
+use Prim.Native.Nat.{ℕ, zero, suc, _+_, _-_, _≤_, _<_}
+use native.Mathlib.Nat.{zero-add}
+use native.Mathlib.Omega.{arith}
+use lib.Dec.{eqb}
+use lib.ListN.{length, getD, replicate, length-replicate, getD-replicate}
+use borrow.Author.Tests.{eq-eqb, ne-eqb, eqb-true}
+use Rattle.rules.proofs.Tests.{by-cases, both, all-of, eq?, lt?}
+use Rattle.model.specs.Lists.{all, from, join, total}
+use Rattle.model.specs.Layout.{Cell, headOr, chained, follow}
+use Rattle.model.specs.Meaning.{times, In, ExactlyOnce, Leads}
+use Rattle.model.proofs.Lists.{Every}
+use Rattle.model.proofs.Tables.{length-table, table-at, table-from}
+use Rattle.model.proofs.Sums.{bit, count, bit-le, bit-same, bit-other, total-append, total-join, total-one}
+use Rattle.model.proofs.Each.{many, Each, cover, count-cover, count-full}
+use Rattle.model.proofs.Chains.{Memory, Stands, Stand}
+
+-- members
+
+pub times-count : (i : ℕ) (l : List ℕ) → times i l ≡ count i l
+times-count i [] = refl
+times-count i (x ∷ l) = let e = times-count i l in by-cases (eqb i x) (λ k. rw k (omega arith)) (λ k. rw k (omega arith))
+
+pub every-in : (P : ℕ → Type 0) (l : List ℕ) → Every P l → (i : ℕ) → In i l → P i
+every-in P [] r i h = absurd (omega arith)
+every-in P (x ∷ l) r i h =
+    ⊎-elim (λ (e : i ≡ x). subst P (sym e) (r .0))
+    (λ (d : i ≡ x → ⊥). every-in P l (r .1) i (omega (arith, times-count i l, times-count i (x ∷ l), bit-other i x d))) (eq? i x)
+
+pub in-every : (P : ℕ → Type 0) (l : List ℕ) → ((i : ℕ) → In i l → P i) → Every P l
+in-every P [] f = tt
+in-every P (x ∷ l) f = (
+  f x (omega (arith, times-count x (x ∷ l), bit-same x x refl)),
+  in-every P l (λ i h. f i (omega (arith, times-count i l, times-count i (x ∷ l)))),
+)
+
+pub every-all : {A : Type 0} (f : A → Bool) (l : List A) → Every (λ x. f x ≡ true) l → all f l ≡ true
+every-all f [] r = refl
+every-all f (x ∷ l) r = all-of (r .0) (every-all f l (r .1))
+
+pub all-every : {A : Type 0} (f : A → Bool) (l : List A) → all f l ≡ true → Every (λ x. f x ≡ true) l
+all-every f [] r = tt
+all-every f (x ∷ l) r = let h = both (f x) (all f l) r in (h .0, all-every f l (h .1))
+
+-- members of one of the lists f a to f (a + n - 1)
+pub in-one : (f : ℕ → List ℕ) (n b i : ℕ) → b < n → In i (f b) → In i (join (map f (from 0 n)))
+in-one f n b i h p =
+    let e : getD (map f (from 0 n)) b [] ≡ f b = table-at f 0 n [] b h ∙ ap f (omega arith) in
+    omega (arith, times-count i (f b), times-count i (join (map f (from 0 n))), ap (count i) e, total-one (λ (x : ℕ). bit (eqb i x)) (map f (from 0 n)) b)
+
+pub one-in : (f : ℕ → List ℕ) (n i : ℕ) → In i (join (map f (from 0 n))) → (b : ℕ) × (b < n) × In i (f b)
+one-in f n i p = go (total-join (λ (x : ℕ). bit (eqb i x)) (map f (from 0 n)) (omega (arith, times-count i (join (map f (from 0 n))))))
+  where
+    go : (b : ℕ) × (b < length (map f (from 0 n))) × (0 < count i (getD (map f (from 0 n)) b [])) → (b : ℕ) × (b < n) × In i (f b)
+    go (b, h, q) =
+        let b₁ : b < n = omega (arith, length-table f 0 n) in
+        (b, b₁, omega (arith, times-count i (f b), ap (count i) (table-at f 0 n [] b b₁ ∙ ap f (zero-add b))))
+
+-- a weight of two members, and a test that no two members pass
+
+total-member : (f : ℕ → ℕ) (l : List ℕ) (i : ℕ) → In i l → f i ≤ total f l
+total-member f [] i h = absurd (omega arith)
+total-member f (x ∷ l) i h =
+    ⊎-elim (λ (e : i ≡ x). omega (arith, ap f e))
+    (λ (d : i ≡ x → ⊥). omega (arith, total-member f l i (omega (arith, times-count i l, times-count i (x ∷ l), bit-other i x d)))) (eq? i x)
+
+pub total-members : (f : ℕ → ℕ) (l : List ℕ) (i j : ℕ) → In i l → In j l → (i ≡ j → ⊥) → f i + f j ≤ total f l
+total-members f [] i j h k n = absurd (omega arith)
+total-members f (x ∷ l) i j h k n =
+    let member : (y : ℕ) → (y ≡ x → ⊥) → In y (x ∷ l) → In y l = λ y d p. omega (arith, times-count y l, times-count y (x ∷ l), bit-other y x d) in
+    ⊎-elim (λ (e : i ≡ x). omega (arith, ap f e, total-member f l j (member j (λ d. n (e ∙ sym d)) k)))
+    (λ (d : i ≡ x → ⊥). ⊎-elim (λ (e : j ≡ x). omega (arith, ap f e, total-member f l i (member i d h)))
+    (λ (g : j ≡ x → ⊥). omega (arith, total-members f l i j (member i d h) (member j g k) n)) (eq? j x)) (eq? i x)
+
+total-none : (f : ℕ → Bool) (l : List ℕ) → ((i : ℕ) → In i l → f i ≡ false) → total (λ i. bit (f i)) l ≡ 0
+total-none f [] h = refl
+total-none f (x ∷ l) h =
+    let r = in-every (λ i. f i ≡ false) (x ∷ l) h in
+    omega (arith, ap bit (r .0), total-none f l (every-in (λ i. f i ≡ false) l (r .1)))
+
+pub total-apart : (f : ℕ → Bool) (l : List ℕ) → ((i : ℕ) → count i l ≤ 1) → ((i j : ℕ) → In i l → In j l → f i ≡ true → f j ≡ true → i ≡ j)
+    → total (λ i. bit (f i)) l ≤ 1
+total-apart f [] o h = omega arith
+total-apart f (x ∷ l) o h =
+    by-cases (f x)
+    (λ e. omega (arith, bit-le (f x), total-none f l (other e)))
+    (λ e. omega (arith, ap bit e, total-apart f l (λ i. omega (arith, o i)) (λ i j p q. h i j (later i p) (later j q))))
+  where
+    later : (i : ℕ) → In i l → In i (x ∷ l)
+    later i p = omega (arith, times-count i l, times-count i (x ∷ l))
+
+    other : f x ≡ true → (i : ℕ) → In i l → f i ≡ false
+    other e i p =
+        by-cases (f i)
+        (λ g. let d = h x i (omega (arith, times-count x (x ∷ l), bit-same x x refl)) (later i p) e g in
+        absurd (omega (arith, o i, times-count i l, bit-same i x (sym d))))
+        (λ g. g)
+
+-- walks
+
+-- a walk that ends within the fuel is what `follow` reads
+pub led-follow : (next : ℕ → ℕ) (fuel h : ℕ) (l : List ℕ) → Leads next h l → ((i : ℕ) → In i l → 1 ≤ i) → length l ≤ fuel → follow fuel next h ≡ l
+unfolding follow
+led-follow next zero h [] r p b = refl
+led-follow next (suc fuel) h [] r p b = rw (eq-eqb h 0 r)
+led-follow next zero h (x ∷ l) r p b = absurd (omega arith)
+led-follow next (suc fuel) h (x ∷ l) r p b =
+    let q = every-in (λ i. 1 ≤ i) (x ∷ l) (in-every (λ i. 1 ≤ i) (x ∷ l) p) in
+    rw (ne-eqb h 0 (omega (arith, r .0, in-every (λ i. 1 ≤ i) (x ∷ l) p .0)), r .0)
+    (ap (λ (l : List ℕ). x ∷ l) (led-follow next fuel (next x) l (r .1) (every-in (λ i. 1 ≤ i) l (in-every (λ i. 1 ≤ i) (x ∷ l) p .1)) (omega arith)))
+
+-- cell i has the m words that follow the next word of i
+abbrev pub Reads : Memory → ℕ → (ℕ → Cell) → ℕ → Type 0
+Reads word m cell i = map (word i) (from 1 m) ≡ cell i .words
+
+module _ (word : Memory) (m : ℕ) (cell : ℕ → Cell) (numbered : (i : ℕ) → cell i .at ≡ i) where
+  reads-at : (i k : ℕ) → Reads word m cell i → k < m → word i (suc k) ≡ getD (cell i .words) k 0
+  reads-at i k r h = ap (word i) (omega arith) ∙ sym (table-at (word i) 1 m 0 k h) ∙ ap (λ (l : List ℕ). getD l k 0) r
+
+  pub led-stand : (h : ℕ) (l : List ℕ) → Leads (λ i. word i 0) h l → Every (Reads word m cell) l
+      → Stand word (suc m) (chained 0 (map cell l)) × (h ≡ headOr 0 (map cell l))
+  led-stand h [] r f = (tt, r)
+  led-stand h (x ∷ xs) r f =
+      let q = led-stand (word x 0) xs (r .1) (f .1) in
+      ((λ k l. at k l (q .1), q .0), r .0 ∙ sym (numbered x))
+    where
+      at : (k : ℕ) → k < suc m → word x 0 ≡ headOr 0 (map cell xs) → word (cell x .at) k ≡ getD (headOr 0 (map cell xs) ∷ cell x .words) k 0
+      at zero l e = ap (λ (i : ℕ). word i 0) (numbered x) ∙ e
+      at (suc k) l e = ap (λ (i : ℕ). word i (suc k)) (numbered x) ∙ reads-at x k (f .0) (omega arith)
+
+  pub stand-led : ((i : ℕ) → length (cell i .words) ≡ m) → (l : List ℕ) → Stand word (suc m) (chained 0 (map cell l))
+      → Leads (λ i. word i 0) (headOr 0 (map cell l)) l × Every (Reads word m cell) l
+  stand-led wide [] q = (refl, tt)
+  stand-led wide (x ∷ xs) q =
+      let t = stand-led wide xs (q .1) in
+      ((numbered x, subst (λ (h : ℕ). Leads (λ i. word i 0) h xs) (sym (at 0 (omega arith))) (t .0)), (here, t .1))
+    where
+      at : (k : ℕ) → k < suc m → word x k ≡ getD (headOr 0 (map cell xs) ∷ cell x .words) k 0
+      at k l = ap (λ (i : ℕ). word i k) (sym (numbered x)) ∙ q .0 k l
+
+      here : Reads word m cell x
+      here = table-from (word x) 1 m 0 (cell x .words) (wide x) (λ k l. ap (word x) (omega arith) ∙ at (suc k) (omega arith))
+
+-- exactly once
+
+-- in range, none twice, and as many as there are
+pub marked-once : (n : ℕ) (l : List ℕ) → ((i : ℕ) → In i l → (1 ≤ i) × (i ≤ n)) → ((i : ℕ) → times i l ≤ 1) → length l ≡ n → ExactlyOnce n l
+marked-once n l p o e = record {
+  cells = p;
+  once = λ i a b. times-count i l ∙ count-cover n l (λ i h. p i (omega (arith, times-count i l))) (λ i. omega (arith, times-count i l, o i)) e i a b;
+}
+
+-- of the cells of chains, by their numbers
+pub each-once : (n : ℕ) (cs : List Cell) (l : List ℕ) → ((i : ℕ) → many i cs ≡ count i l) → Each n cs → ExactlyOnce n l
+each-once n cs l m e = record {
+  cells = λ i h. e .inside i (omega (arith, m i, times-count i l));
+  once = λ i a b. omega (arith, m i, times-count i l, cover e i a b);
+}
+
+pub once-each : (n : ℕ) (cs : List Cell) (l : List ℕ) → ((i : ℕ) → many i cs ≡ count i l) → length cs ≡ length l → ExactlyOnce n l → Each n cs
+once-each n cs l m e r =
+    let inside : (i : ℕ) → 0 < count i l → (1 ≤ i) × (i ≤ n) = λ i h. r .cells i (omega (arith, times-count i l)) in
+    let here : (i : ℕ) → 1 ≤ i → i ≤ n → count i l ≡ 1 = λ i a b. sym (times-count i l) ∙ r .once i a b in
+    record {
+      once = λ i. ⊎-elim (λ (z : 0 < count i l). let (a, b) = inside i z in omega (arith, m i, here i a b)) (λ (z : count i l ≤ 0). omega (arith, m i)) (lt? 0 (count i l));
+      inside = λ i h. inside i (omega (arith, m i));
+      count = e ∙ count-full n l inside here;
+    }
