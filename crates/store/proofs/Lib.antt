@@ -4,3 +4,4 @@ pub mod WalkLaws
 pub mod Walking
 -- The checker's walks
 pub mod PartLaws
+pub mod PartMeans
