@@ -1,18 +1,18 @@
 -- n cells, all from 1 to n and none twice, are all of them (the pigeonhole principle, by adding up counts).
 use mathlib.Core.Path.{_≡_, refl, sym, ap, _∙_}
-use mathlib.Core.Logic.{_⊎_, inl, inr, ⊎-elim, _↔_}
-use mathlib.Core.List.{List, [], _∷_, _++_, map}
-use mathlib.Core.Bool.{Bool, true, false, _&&_, cond, false≢true}
+use mathlib.Core.Logic.{⊎-elim}
+use mathlib.Core.List.{List, [], _∷_}
+use mathlib.Core.Bool.{true, _&&_}
 use Prim.Native.Nat.{ℕ, zero, suc, _+_, _≤_, _<_}
 use native.Mathlib.Omega.{arith}
-use lib.Dec.{eqb, leb}
-use lib.ListN.{length, getD, set}
-use borrow.Author.Tests.{eqb-true, eqb-false, eq-eqb, ne-eqb, leb-true, le-leb}
+use lib.Dec.{eqb}
+use lib.ListN.{length}
+use borrow.Author.Tests.{eqb-true, eq-eqb}
 use Rattle.model.specs.Lists.{all, between, distinct, total}
 use Rattle.model.specs.Layout.{Cell, atsOf, eachOnce}
 use Rattle.rules.proofs.Tests.{eq?, both, all-of}
 use Rattle.model.proofs.Lists.{between-is}
-use Rattle.model.proofs.Sums.{count, bit, bit-le, bit-same, bit-other, eqb-is, distinct-total, total-distinct}
+use Rattle.model.proofs.Sums.{count, bit, bit-same, bit-other, eqb-is, distinct-total, total-distinct}
 
 -- f 1 to f n
 sum : ℕ → (ℕ → ℕ) → ℕ

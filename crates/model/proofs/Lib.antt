@@ -11,5 +11,11 @@ pub mod Lend
 -- The store as facts
 pub mod Fair
 -- The words of a store
+pub mod Rep
 pub mod Serials
+pub mod Decode
+pub mod Sound
+pub mod Fresh
+-- What soundness means
 pub mod Walks
+pub mod Meaning

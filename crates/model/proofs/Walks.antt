@@ -3,24 +3,24 @@
 -- is such a walk (`stand-led`); a walk that ends within the fuel is what `follow` reads (`led-follow`). Cells that are all in range, none
 -- twice, and as many as there are, are each of them exactly once (`marked-once`), by the pigeonhole principle.
 use mathlib.Core.Path.{_≡_, refl, sym, ap, _∙_, subst}
-use mathlib.Core.Logic.{_⊎_, inl, inr, ⊎-elim}
-use mathlib.Core.List.{List, [], _∷_, _++_, map}
+use mathlib.Core.Logic.{⊎-elim}
+use mathlib.Core.List.{List, [], _∷_, map}
 use mathlib.Core.Bool.{Bool, true, false}
 use Prim.Native.Nat.{ℕ, zero, suc, _+_, _-_, _≤_, _<_}
 use native.Mathlib.Nat.{zero-add}
 use native.Mathlib.Omega.{arith}
 use lib.Dec.{eqb}
 use lib.ListN.{length, getD, replicate, length-replicate, getD-replicate}
-use borrow.Author.Tests.{eq-eqb, ne-eqb, eqb-true}
+use borrow.Author.Tests.{eq-eqb, ne-eqb}
 use Rattle.rules.proofs.Tests.{by-cases, both, all-of, eq?, lt?}
 use Rattle.model.specs.Lists.{all, from, join, total}
-use Rattle.model.specs.Layout.{Cell, headOr, chained, follow}
+use Rattle.model.specs.Layout.{Cell, headOr, chained, first, freeCell, follow}
 use Rattle.model.specs.Meaning.{times, In, ExactlyOnce, Leads}
 use Rattle.model.proofs.Lists.{Every}
 use Rattle.model.proofs.Tables.{length-table, table-at, table-from}
-use Rattle.model.proofs.Sums.{bit, count, bit-le, bit-same, bit-other, total-append, total-join, total-one}
+use Rattle.model.proofs.Sums.{bit, count, bit-le, bit-same, bit-other, total-join, total-one}
 use Rattle.model.proofs.Each.{many, Each, cover, count-cover, count-full}
-use Rattle.model.proofs.Chains.{Memory, Stands, Stand}
+use Rattle.model.proofs.Chains.{Memory, Stand}
 
 -- members
 
@@ -105,6 +105,10 @@ total-apart f (x ∷ l) o h =
 
 -- walks
 
+pub led-first : (next : ℕ → ℕ) (h : ℕ) (l : List ℕ) → Leads next h l → h ≡ first l
+led-first next h [] r = r
+led-first next h (x ∷ l) r = r .0
+
 -- a walk that ends within the fuel is what `follow` reads
 pub led-follow : (next : ℕ → ℕ) (fuel h : ℕ) (l : List ℕ) → Leads next h l → ((i : ℕ) → In i l → 1 ≤ i) → length l ≤ fuel → follow fuel next h ≡ l
 unfolding follow
@@ -148,6 +152,22 @@ module _ (word : Memory) (m : ℕ) (cell : ℕ → Cell) (numbered : (i : ℕ) �
       here : Reads word m cell x
       here = table-from (word x) 1 m 0 (cell x .words) (wide x) (λ k l. ap (word x) (omega arith) ∙ at (suc k) (omega arith))
 
+-- a free cell has zero words
+pub reads-zero : (word : Memory) (m i : ℕ) → Reads word m (freeCell (suc m)) i → (k : ℕ) → 1 ≤ k → k < suc m → word i k ≡ 0
+unfolding freeCell
+reads-zero word m i r k a b =
+    let e : 1 + (k - 1) ≡ k = omega arith in
+    let z : suc m - 1 ≡ m = omega arith in
+    sym (table-at (word i) 1 m 0 (k - 1) (omega arith) ∙ ap (word i) e)
+    ∙ ap (λ (l : List ℕ). getD l (k - 1) 0) (r ∙ ap (λ (n : ℕ). replicate n 0) z) ∙ getD-replicate m (k - 1) 0 0 (omega arith)
+
+pub zero-reads : (word : Memory) (m i : ℕ) → ((k : ℕ) → 1 ≤ k → k < suc m → word i k ≡ 0) → Reads word m (freeCell (suc m)) i
+unfolding freeCell
+zero-reads word m i f =
+    let z : suc m - 1 ≡ m = omega arith in
+    table-from (word i) 1 m 0 (replicate m 0) (length-replicate m 0) (λ k h. f (1 + k) (omega arith) (omega arith) ∙ sym (getD-replicate m k 0 0 h))
+    ∙ ap (λ (n : ℕ). replicate n 0) (sym z)
+
 -- exactly once
 
 -- in range, none twice, and as many as there are
@@ -164,12 +184,16 @@ each-once n cs l m e = record {
   once = λ i a b. omega (arith, m i, times-count i l, cover e i a b);
 }
 
+pub once-le : (n : ℕ) (l : List ℕ) → ExactlyOnce n l → (i : ℕ) → count i l ≤ 1
+once-le n l r i =
+    ⊎-elim (λ (z : 0 < count i l). let (a, b) = r .cells i (omega (arith, times-count i l)) in omega (arith, times-count i l, r .once i a b))
+    (λ (z : count i l ≤ 0). omega arith) (lt? 0 (count i l))
+
 pub once-each : (n : ℕ) (cs : List Cell) (l : List ℕ) → ((i : ℕ) → many i cs ≡ count i l) → length cs ≡ length l → ExactlyOnce n l → Each n cs
 once-each n cs l m e r =
     let inside : (i : ℕ) → 0 < count i l → (1 ≤ i) × (i ≤ n) = λ i h. r .cells i (omega (arith, times-count i l)) in
-    let here : (i : ℕ) → 1 ≤ i → i ≤ n → count i l ≡ 1 = λ i a b. sym (times-count i l) ∙ r .once i a b in
     record {
-      once = λ i. ⊎-elim (λ (z : 0 < count i l). let (a, b) = inside i z in omega (arith, m i, here i a b)) (λ (z : count i l ≤ 0). omega (arith, m i)) (lt? 0 (count i l));
+      once = λ i. omega (arith, m i, once-le n l r i);
       inside = λ i h. inside i (omega (arith, m i));
-      count = e ∙ count-full n l inside here;
+      count = e ∙ count-full n l inside (λ i a b. sym (times-count i l) ∙ r .once i a b);
     }

@@ -1,6 +1,6 @@
 -- What document 01 asks of a sound store, clause by clause, said of the words themselves: `Sound`. That it is what `sound` decides is
 -- `sound-means` in proofs/Meaning.antt.
-use Prim.Native.Nat.{ℕ, zero, suc, _+_, _*_, _/_, _≤_, _<_}
+use Prim.Native.Nat.{ℕ, _+_, _*_, _/_, _≤_, _<_}
 use mathlib.Core.Path.{_≡_}
 use mathlib.Core.Logic.{_⊎_}
 use mathlib.Core.List.{List, [], _∷_, _++_, map}

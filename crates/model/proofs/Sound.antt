@@ -1,0 +1,55 @@
+-- Sound words are those that stand for a store whose load is right (`sound-iff`): `rep-decode` and `rep-words` say that such words are
+-- the encoding of what is read from them. So the encoding of a good store is sound (`good-sound`), and sound words are the encoding of
+-- a good store (`sound-good`).
+use mathlib.Core.Path.{_≡_, sym, ap, _∙_, subst}
+use mathlib.Core.Logic.{_↔_}
+use mathlib.Core.List.{List}
+use mathlib.Core.Bool.{Bool, true, false, _&&_, false≢true}
+use Prim.Native.Nat.{ℕ}
+use lib.Dec.{lit<}
+use lib.ListN.{getD}
+use Rattle.rules.specs.Table.{stateOk}
+use Rattle.rules.proofs.Tests.{both, all-of}
+use Rattle.model.specs.Lists.{same}
+use Rattle.model.specs.Model.{Store}
+use Rattle.model.specs.Layout.{cardsAt, header, front, encode, decode, limitsOk, loadOk, fair, good, soundIf, sound}
+use Rattle.model.proofs.Lists.{same-is}
+use Rattle.model.proofs.Fair.{Good, fair-is, is-fair, load-is, is-load}
+use Rattle.model.proofs.Rep.{Rep, rep-front, rep-encode, rep-words}
+use Rattle.model.proofs.Decode.{rep-decode}
+
+-- a store is known by its words
+pub rep-store : (w : List ℕ) (s t : Store) → Rep w s → Rep w t → s ≡ t
+rep-store w s t p q = sym (rep-decode w s p) ∙ rep-decode w t q
+
+pub is-sound : (w : List ℕ) (s : Store) → Rep w s → loadOk s ≡ true → sound w ≡ true
+unfolding sound good front header cardsAt
+is-sound w s r l =
+    let e : (stateOk (getD w 3 0) (getD w 4 0) && limitsOk (getD w 1 0) (getD w 2 0)) ≡ true =
+    (λ i. stateOk (rep-front r 3 (lit< tt) i) (rep-front r 4 (lit< tt) i) && limitsOk (rep-front r 1 (lit< tt) i) (rep-front r 2 (lit< tt) i)) ∙ all-of (r .fair .state) (r .fair .limits) in
+    ap (λ (t : Bool). soundIf t w) e
+    ∙ rw (rep-decode w s r) (all-of (all-of l (is-fair s (r .fair))) (same-is (encode s) w .1 (sym (rep-words w s r))))
+
+pub sound-is : (w : List ℕ) → sound w ≡ true → Rep w (decode w) × (loadOk (decode w) ≡ true)
+unfolding sound good
+sound-is w e = go (stateOk (getD w 3 0) (getD w 4 0) && limitsOk (getD w 1 0) (getD w 2 0)) e
+  where
+    go : (t : Bool) → soundIf t w ≡ true → Rep w (decode w) × (loadOk (decode w) ≡ true)
+    go true e =
+        let a = both (good (decode w)) (same (encode (decode w)) w) e in
+        let b = both (loadOk (decode w)) (fair (decode w)) (a .0) in
+        (subst (λ (v : List ℕ). Rep v (decode w)) (same-is (encode (decode w)) w .0 (a .1)) (rep-encode (decode w) (fair-is (decode w) (b .1))), b .0)
+    go false e = absurd (false≢true e)
+
+pub sound-iff : (w : List ℕ) → (sound w ≡ true) ↔ (Rep w (decode w) × (loadOk (decode w) ≡ true))
+sound-iff w = (sound-is w, λ h. is-sound w (decode w) (h .0) (h .1))
+
+-- the encoding of a good store is sound, and sound words are one
+pub good-sound : (s : Store) → Good s → sound (encode s) ≡ true
+good-sound s g = is-sound (encode s) s (rep-encode s (g .fair)) (is-load s g)
+
+pub sound-good : (w : List ℕ) → sound w ≡ true → Good (decode w) × (encode (decode w) ≡ w)
+sound-good w e =
+    let h = sound-is w e in
+    let l = load-is (decode w) (h .1) in
+    (record { fair = h .0 .fair; high = l .0; low = l .1 }, sym (rep-words w (decode w) (h .0)))
