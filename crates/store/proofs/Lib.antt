@@ -2,6 +2,7 @@
 pub mod MarkLaws
 pub mod WalkLaws
 pub mod Walking
+pub mod OnceLaws
 -- The checker's walks
 pub mod PartLaws
 pub mod PartMeans
