@@ -6,3 +6,5 @@ pub mod OnceLaws
 -- The checker's walks
 pub mod PartLaws
 pub mod PartMeans
+-- What the checker decides
+pub mod FrontMeans
