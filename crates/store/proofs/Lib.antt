@@ -8,3 +8,4 @@ pub mod PartLaws
 pub mod PartMeans
 -- What the checker decides
 pub mod FrontMeans
+pub mod CellMeans
