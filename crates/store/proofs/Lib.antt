@@ -9,3 +9,4 @@ pub mod PartMeans
 -- What the checker decides
 pub mod FrontMeans
 pub mod CellMeans
+pub mod HistoryMeans

@@ -49,7 +49,8 @@ last-or [] = refl
 last-or (x ∷ []) = refl
 last-or (x ∷ y ∷ l) = last-or (y ∷ l)
 
-follow-none : (f : ℕ) (next : ℕ → ℕ) (i : ℕ) → i ≡ 0 → follow f next i ≡ []
+-- a chain that begins with 0 is empty
+pub follow-none : (f : ℕ) (next : ℕ → ℕ) (i : ℕ) → i ≡ 0 → follow f next i ≡ []
 unfolding follow
 follow-none zero next i z = refl
 follow-none (suc f) next i z = rw (eq-eqb i 0 z)
