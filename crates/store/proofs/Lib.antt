@@ -10,3 +10,4 @@ pub mod PartMeans
 pub mod FrontMeans
 pub mod CellMeans
 pub mod HistoryMeans
+pub mod PartsSound

@@ -21,6 +21,13 @@ use Rattle.model.proofs.Walks.{times-count}
 pub once-length : (n : ℕ) (l : List ℕ) → ExactlyOnce n l → length l ≡ n
 once-length n l r = count-full n l (λ i h. r .cells i (omega (arith, times-count i l))) (λ i a b. sym (times-count i l) ∙ r .once i a b)
 
+-- a list with the same cells, in whatever order
+pub once-same : (n : ℕ) (a b : List ℕ) → ((i : ℕ) → count i a ≡ count i b) → ExactlyOnce n a → ExactlyOnce n b
+once-same n a b e r = record {
+  cells = λ i h. r .cells i (omega (arith, e i, times-count i a, times-count i b));
+  once = λ i p q. omega (arith, e i, times-count i a, times-count i b, r .once i p q);
+}
+
 -- sums over a run of numbers
 
 total-same : (g h : ℕ → ℕ) (a n : ℕ) → ((i : ℕ) → a ≤ i → i < a + n → g i ≡ h i) → total g (from a n) ≡ total h (from a n)
