@@ -11,3 +11,4 @@ pub mod FrontMeans
 pub mod CellMeans
 pub mod HistoryMeans
 pub mod PartsSound
+pub mod SoundParts
