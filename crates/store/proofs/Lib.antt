@@ -12,3 +12,4 @@ pub mod CellMeans
 pub mod HistoryMeans
 pub mod PartsSound
 pub mod SoundParts
+pub mod Decides
