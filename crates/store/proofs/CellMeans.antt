@@ -5,9 +5,9 @@
 -- each card is met first (`met-first`).
 use mathlib.Core.Path.{_≡_, refl, sym, ap, _∙_}
 use mathlib.Core.Logic.{⊎-elim}
-use mathlib.Core.Bool.{Bool, true, false, cond, _&&_, false≢true}
+use mathlib.Core.Bool.{Bool, true, false, cond, false≢true}
 use mathlib.Core.List.{List, [], _∷_}
-use Prim.Native.Nat.{ℕ, zero, suc, _+_, _-_, _≤_, _<_}
+use Prim.Native.Nat.{ℕ, zero, suc, _-_, _≤_, _<_}
 use native.Mathlib.Omega.{arith}
 use borrow.Author.Tests.{eqb-true, eq-eqb, ne-eqb}
 use lib.Dec.{eqb}
@@ -15,12 +15,12 @@ use lib.ListN.{length, take, drop, getD}
 use Rattle.rules.specs.Code.{codeOf}
 use Rattle.rules.specs.Table.{top, addressOf}
 use Rattle.rules.proofs.Tests.{by-cases, not-both, both, all-of, eq?}
-use Rattle.model.specs.Lists.{all, from, between}
+use Rattle.model.specs.Lists.{all, between}
 use Rattle.model.specs.Serial.{serialOk, validSerial, validFault}
-use Rattle.model.specs.Layout.{segmentsAt, cardWidth, faultWidth, packed, cardWord, faultWord}
-use Rattle.model.specs.Meaning.{times, In, Leads, limitIn, bucketWord, nextCard, bytesIn, serialIn}
+use Rattle.model.specs.Layout.{packed, cardWord, faultWord}
+use Rattle.model.specs.Meaning.{In, Leads, limitIn, bucketWord, nextCard, bytesIn, serialIn}
 use Rattle.model.proofs.Lists.{between-is, all-from, from-all}
-use Rattle.model.proofs.Sums.{bit, bit-same, bit-other, count}
+use Rattle.model.proofs.Sums.{bit-same, bit-other}
 use Rattle.model.proofs.Serials.{words-back}
 use Rattle.model.proofs.Walks.{times-count}
 use Rattle.store.specs.Cells.{bytesAt, cellWord, widthOf, sameKey, metFirst, freeFits, faultFits, cardFits, cellFits}

@@ -1,14 +1,14 @@
 -- The checker decides soundness (`checked-is-sound`), whatever words it is given. Both answer true exactly where `Sound` holds: the checker
 -- by the meaning of its front and of its two parts, `sound` by `sound-means`. In clean scratch no number is marked; the part of the
 -- cards marks numbers below C alone, so the part of the faults finds none of its own marked either.
-use mathlib.Core.Path.{_≡_, sym, ap, _∙_}
-use mathlib.Core.Logic.{_⊎_, inl, inr}
-use mathlib.Core.Bool.{Bool, true, false, _&&_}
+use mathlib.Core.Path.{_≡_, sym, _∙_}
+use mathlib.Core.Logic.{inr}
+use mathlib.Core.Bool.{Bool, true, false}
 use mathlib.Core.List.{List}
-use Prim.Native.Nat.{ℕ, _+_, _*_, _≤_, _<_}
+use Prim.Native.Nat.{ℕ, _+_, _≤_, _<_}
 use native.Mathlib.Omega.{arith}
 use lib.ListN.{length, getD}
-use Rattle.rules.proofs.Tests.{by-cases, not-both, both, all-of}
+use Rattle.rules.proofs.Tests.{both, all-of}
 use Rattle.model.specs.Layout.{limitsOk, sound}
 use Rattle.model.specs.Meaning.{Sound}
 use Rattle.model.specs.Calls.{scratchNeed, cleaned}
@@ -18,7 +18,7 @@ use Rattle.store.specs.Cells.{limitOf}
 use Rattle.store.specs.Checker.{baseOf, frontFits, partOf, checked}
 use Rattle.store.proofs.MarkLaws.{length-cleaned, none-marked}
 use Rattle.store.proofs.PartLaws.{marks-fit, kept-part}
-use Rattle.store.proofs.PartMeans.{Part, part-is, is-part}
+use Rattle.store.proofs.PartMeans.{part-is, is-part}
 use Rattle.store.proofs.FrontMeans.{front-is, is-front}
 use Rattle.store.proofs.PartsSound.{parts-sound}
 use Rattle.store.proofs.SoundParts.{sound-cards, sound-faults}

@@ -1,8 +1,8 @@
 -- What the checker finds right before the cells: header, load, directory and bucket words from B on, each test as the clause of `Sound` that
 -- it decides (`front-is`, `is-front`). The length is tested first, so that the words are there to be read; it follows from the limits.
-use mathlib.Core.Path.{_≡_, sym, ap, _∙_}
+use mathlib.Core.Path.{_≡_, sym, _∙_}
 use mathlib.Core.Logic.{_⊎_, inl, inr, ⊎-elim}
-use mathlib.Core.Bool.{Bool, true, false, cond, _&&_, _||_}
+use mathlib.Core.Bool.{Bool, true, _||_}
 use mathlib.Core.List.{List}
 use Prim.Native.Nat.{ℕ, _+_, _-_, _*_, _/_, _≤_, _<_}
 use native.Mathlib.Omega.{arith}
@@ -12,7 +12,6 @@ use lib.ListN.{length, getD}
 use Rattle.rules.specs.Table.{least, top, upper, lower, stateOk}
 use Rattle.rules.proofs.Tests.{by-cases, both, all-of, either}
 use Rattle.rules.proofs.States.{state-of}
-use Rattle.model.specs.Lists.{all, from}
 use Rattle.model.specs.Layout.{format, directoryAt, segmentsAt, segmentSize, cardsAt, faultsAt, lengthFor, limitsOk}
 use Rattle.model.specs.Meaning.{limitIn, faultLimitIn, bucketsIn, bucketWord, Sound}
 use Rattle.model.proofs.Lists.{all-from, from-all}

@@ -3,13 +3,13 @@
 -- cells 1 to C is what is counted over those of the cards (`filed-total`), in whatever order the buckets have them.
 use mathlib.Core.Path.{_≡_, refl, sym, ap, _∙_}
 use mathlib.Core.Bool.{true}
-use mathlib.Core.List.{List, [], _∷_, _++_, map}
-use Prim.Native.Nat.{ℕ, zero, suc, _+_, _≤_, _<_}
+use mathlib.Core.List.{List, [], _∷_, _++_}
+use Prim.Native.Nat.{ℕ, zero, suc, _+_}
 use native.Mathlib.Omega.{arith}
 use lib.ListN.{getD}
-use Rattle.model.specs.Lists.{join, from, total}
+use Rattle.model.specs.Lists.{from, total}
 use Rattle.model.specs.Layout.{cardWord}
-use Rattle.model.specs.Meaning.{times, In, ExactlyOnce, limitIn, nextFault, freeCells, heldCells, historyCells, filedCells}
+use Rattle.model.specs.Meaning.{In, ExactlyOnce, limitIn, nextFault, freeCells, heldCells, historyCells, filedCells}
 use Rattle.model.proofs.Sums.{total-append, total-flat}
 use Rattle.model.proofs.Walks.{in-every}
 use Rattle.model.proofs.Lists.{Every}

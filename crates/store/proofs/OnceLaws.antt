@@ -3,7 +3,7 @@
 -- with its weight as often as it stands in the list.
 use mathlib.Core.Path.{_≡_, refl, sym, ap, _∙_}
 use mathlib.Core.Logic.{⊎-elim}
-use mathlib.Core.Bool.{Bool, true, false, cond}
+use mathlib.Core.Bool.{cond}
 use mathlib.Core.List.{List, [], _∷_}
 use Prim.Native.Nat.{ℕ, zero, suc, _+_, _*_, _<_, _≤_}
 use native.Mathlib.Nat.{zero-mul, one-mul, add-mul}
@@ -13,8 +13,8 @@ use lib.Dec.{eqb}
 use lib.ListN.{length}
 use Rattle.rules.proofs.Tests.{by-cases, eq?}
 use Rattle.model.specs.Lists.{from, total}
-use Rattle.model.specs.Meaning.{times, In, ExactlyOnce}
-use Rattle.model.proofs.Sums.{bit, bit-same, count}
+use Rattle.model.specs.Meaning.{ExactlyOnce}
+use Rattle.model.proofs.Sums.{bit-same, count}
 use Rattle.model.proofs.Each.{count-full}
 use Rattle.model.proofs.Walks.{times-count}
 

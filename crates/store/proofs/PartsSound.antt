@@ -1,21 +1,19 @@
 -- What the checker finds right is sound (`parts-sound`): each clause of `Sound` from a test. That no serial stands twice is tested in one
 -- chain at a time, which is enough, since equal serials have one address.
-use mathlib.Core.Path.{_≡_, refl, sym, ap, _∙_, subst}
-use mathlib.Core.Logic.{_⊎_, inl, inr, ⊎-elim}
-use mathlib.Core.Bool.{Bool, true, false, _&&_}
+use mathlib.Core.Path.{_≡_, sym, _∙_, subst}
+use mathlib.Core.Bool.{true, false}
 use mathlib.Core.List.{List, _++_}
-use Prim.Native.Nat.{ℕ, suc, _+_, _-_, _≤_, _<_}
+use Prim.Native.Nat.{ℕ, _+_, _-_, _≤_, _<_}
 use native.Mathlib.Omega.{arith}
 use borrow.Author.Tests.{eqb-true}
 use lib.Dec.{eqb}
 use lib.ListN.{length, getD}
-use Rattle.rules.specs.Table.{top}
 use Rattle.rules.proofs.Tests.{both}
 use Rattle.rules.proofs.States.{state-of}
 use Rattle.model.specs.Lists.{total}
 use Rattle.model.specs.Serial.{validFault}
 use Rattle.model.specs.Layout.{cardWidth, faultWidth, last, cardWord, faultWord}
-use Rattle.model.specs.Meaning.{times, In, ExactlyOnce, Leads, limitIn, faultLimitIn, bucketsIn, bucketWord, nextCard, nextFault, bucketCells, freeCells, historyCells, freeFaultCells, heldCells, filedCells, serialIn, Sound}
+use Rattle.model.specs.Meaning.{In, ExactlyOnce, Leads, limitIn, faultLimitIn, bucketsIn, bucketWord, nextFault, bucketCells, freeCells, historyCells, freeFaultCells, heldCells, filedCells, serialIn, Sound}
 use Rattle.model.proofs.Sums.{bit, count, total-append, length-total}
 use Rattle.model.proofs.Walks.{times-count, one-in}
 use Rattle.model.proofs.Meaning.{apart-in-buckets}

@@ -2,22 +2,21 @@
 -- since no other card has its serial. The history of a card cell is that of the card which stands there; where the cell is free it is
 -- zero, so its history is empty, with count and last fault 0, and passes too.
 use mathlib.Core.Path.{_≡_, refl, sym, ap, _∙_, subst}
-use mathlib.Core.Logic.{_⊎_, inl, inr, ⊎-elim}
-use mathlib.Core.Bool.{Bool, true, false, _&&_}
-use mathlib.Core.List.{List, [], _∷_, _++_}
+use mathlib.Core.Logic.{⊎-elim}
+use mathlib.Core.Bool.{true, false}
+use mathlib.Core.List.{List, [], _++_}
 use Prim.Native.Nat.{ℕ, zero, suc, _+_, _≤_, _<_}
 use native.Mathlib.Omega.{arith}
-use borrow.Author.Tests.{eq-eqb, ne-eqb}
+use borrow.Author.Tests.{eq-eqb}
 use lib.Dec.{eqb}
 use lib.ListN.{length, getD}
-use Rattle.rules.specs.Table.{top}
 use Rattle.rules.proofs.Tests.{all-of, by-cases, lt?}
 use Rattle.rules.proofs.States.{state-of}
 use Rattle.model.specs.Lists.{total}
 use Rattle.model.specs.Serial.{validFault}
 use Rattle.model.specs.Layout.{follow, last, cardWord, faultWord}
 use Rattle.model.specs.Meaning.{times, In, ExactlyOnce, Leads, limitIn, faultLimitIn, bucketsIn, bucketWord, nextCard, nextFault, bucketCells, freeCells, historyCells, freeFaultCells, heldCells, filedCells, Sound}
-use Rattle.model.proofs.Sums.{bit, count, total-append, length-total}
+use Rattle.model.proofs.Sums.{bit, total-append, length-total}
 use Rattle.model.proofs.Walks.{times-count, in-one}
 use Rattle.store.specs.Cells.{cellWord, widthOf, limitOf}
 use Rattle.store.specs.Checker.{firstOf, endFits, chainCount, heldWord}

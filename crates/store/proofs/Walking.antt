@@ -4,10 +4,10 @@
 -- where it was met before (`accepted`, `accepts`). Then it counts the chain and names its last cell. So do walks one after the other,
 -- over the join of their chains (`walks-accepted`, `walks-accept`).
 use mathlib.Core.Path.{_≡_, refl, sym, ap, subst, _∙_}
-use mathlib.Core.Bool.{Bool, true, false, cond, _&&_, false≢true}
+use mathlib.Core.Bool.{Bool, true, false, _&&_, false≢true}
 use mathlib.Core.Logic.{⊎-elim}
 use mathlib.Core.List.{List, [], _∷_, _++_, map}
-use Prim.Native.Nat.{ℕ, zero, suc, _+_, _-_, _*_, _/_, _<_, _≤_}
+use Prim.Native.Nat.{ℕ, zero, suc, _+_, _*_, _≤_}
 use native.Mathlib.Omega.{arith}
 use borrow.Author.Tests.{eq-eqb, ne-eqb}
 use lib.Dec.{eqb}
@@ -20,7 +20,7 @@ use Rattle.model.specs.Calls.{scratchNeed}
 use Rattle.model.proofs.Lists.{Every}
 use Rattle.model.proofs.Sums.{bit, bit-le, bit-same, bit-other, count, total-append}
 use Rattle.store.specs.Marks.{markAt, markedAt}
-use Rattle.store.specs.Walk.{numberOf, mayCome, Out, accept, refuse, walkFrom, walkOf, Start, Tot, walkOn, walksFrom}
+use Rattle.store.specs.Walk.{numberOf, mayCome, Out, accept, walkFrom, walkOf, Start, Tot, walkOn, walksFrom}
 use Rattle.store.proofs.MarkLaws.{length-marked, marked-same, marked-other}
 use Rattle.store.proofs.WalkLaws.{may-in, may-new, may-good, tested, walk-end, walk-step, walk-all, kept-walk, walks-end, walks-bad, walks-step}
 
@@ -158,20 +158,16 @@ pub record Right (next : ℕ → ℕ) (limit : ℕ) (s : Start) : Type 0 where
   pub fits : s .fits (length (read next limit s)) (last (read next limit s)) ≡ true
 
 module _ (next : ℕ → ℕ) (base limit : ℕ) (marks : base + limit ≤ 8 * scratchNeed) where
-  walk : List ℕ → Start → Out
-  walk bytes s = walkOn next base limit bytes s
-
   -- the test behind a walk, of what the walk answers and of what is read
-  fits-is : (bytes : List ℕ) (s : Start) (seen : List ℕ) → Met next base limit marks (s .good) (s .first) 0 0 (read next limit s) seen (walk bytes s)
-      → s .fits (walk bytes s .count) (walk bytes s .last) ≡ s .fits (length (read next limit s)) (last (read next limit s))
+  fits-is : (bytes : List ℕ) (s : Start) (seen : List ℕ) → Met next base limit marks (s .good) (s .first) 0 0 (read next limit s) seen (walkOn next base limit bytes s)
+      → s .fits (walkOn next base limit bytes s .count) (walkOn next base limit bytes s .last) ≡ s .fits (length (read next limit s)) (last (read next limit s))
   fits-is bytes s seen m =
-      let c : walk bytes s .count ≡ length (read next limit s) = omega (arith, m .counted) in
-      let l : walk bytes s .last ≡ last (read next limit s) = m .ended ∙ last-or (read next limit s) in
+      let c : walkOn next base limit bytes s .count ≡ length (read next limit s) = omega (arith, m .counted) in
+      let l : walkOn next base limit bytes s .last ≡ last (read next limit s) = m .ended ∙ last-or (read next limit s) in
       λ i. s .fits (c i) (l i)
 
   pub walks-accepted : (ss : List Start) (bytes : List ℕ) (n : ℕ) (seen : List ℕ) → scratchNeed ≤ length bytes → Seen base limit bytes seen → walksFrom next base limit ss bytes n .ok ≡ true
       → Every (Right next limit) ss × Apart limit (join (map (read next limit) ss)) seen × (walksFrom next base limit ss bytes n .total ≡ n + length (join (map (read next limit) ss)))
-  unfolding walk
   walks-accepted [] bytes n seen long s ok =
       (tt, λ x a b. omega (arith, s x a b, bit-le (markAt bytes (numberOf base x))), ap (λ (t : Tot). t .total) (walks-end next base limit bytes n) ∙ omega arith)
   walks-accepted (c ∷ cs) bytes n seen long s ok =
@@ -191,7 +187,6 @@ module _ (next : ℕ → ℕ) (base limit : ℕ) (marks : base + limit ≤ 8 * s
 
   pub walks-accept : (ss : List Start) (bytes : List ℕ) (n : ℕ) (seen : List ℕ) → scratchNeed ≤ length bytes → Seen base limit bytes seen
       → Every (Right next limit) ss → Apart limit (join (map (read next limit) ss)) seen → walksFrom next base limit ss bytes n .ok ≡ true
-  unfolding walk
   walks-accept [] bytes n seen long s r a = ap (λ (t : Tot). t .ok) (walks-end next base limit bytes n)
   walks-accept (c ∷ cs) bytes n seen long s r a =
       let o = walkOn next base limit bytes c in
