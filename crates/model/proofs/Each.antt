@@ -130,3 +130,7 @@ is-each n cs r =
     all-of (eq-eqb (length (atsOf cs)) n (length-ats cs ∙ r .count))
     (all-of (tally-all n (atsOf cs) (λ i h. r .inside i (omega (arith, many-ats i cs))))
     (total-distinct eqb eqb-is (atsOf cs) (λ i. omega (arith, many-ats i cs, r .once i))))
+
+-- cells that only move, with the same numbers as before, are each of 1 to n once as before
+pub each-moved : {n : ℕ} {cs ds : List Cell} → ((i : ℕ) → many i ds ≡ many i cs) → length ds ≡ length cs → Each n cs → Each n ds
+each-moved m l r = record { once = λ i. omega (arith, m i, r .once i); inside = λ i h. r .inside i (omega (arith, m i)); count = l ∙ r .count }

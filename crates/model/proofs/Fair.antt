@@ -17,7 +17,7 @@ use Rattle.model.specs.Model.{Fault, Card, Store, cards, histories, held
 use Rattle.model.specs.Layout.{Cell, atsOf, cardWidth, faultWidth, mostCards, mostFaults, cardCell, faultCell, freeCell, cardChains, faultChains, eachOnce, limitsOk, goodCard, goodBuckets, cellsOk, serialsOk, loadOk, fair, good}
 use Rattle.model.proofs.Lists.{between-is, same-is, all-from, from-all}
 use Rattle.model.proofs.Sums.{bit, count, total-append, total-map, total-flat, total-maps, length-total, distinct-total, total-distinct}
-use Rattle.model.proofs.Each.{many, Each, each-is, is-each}
+use Rattle.model.proofs.Each.{many, Each, each-is, is-each, each-moved}
 
 -- what is counted of a card: itself, its faults, whether it stands in a cell, its faults in a cell, whether it has a serial
 abbrev pub one : Card → ℕ
@@ -103,6 +103,29 @@ fault-count s =
     go : (cs : List Card) → total (λ (c : Card). total (λ (c : Cell). 1) (map faultCell (c .faults))) cs ≡ total filings cs
     go [] = refl
     go (c ∷ cs) = omega (arith, go cs, total-map (λ (c : Cell). 1) faultCell (c .faults), length-total (c .faults))
+
+-- a step that moves cells and makes or loses none, seen as sums over the cells' numbers
+
+pub cells-moved : (s t : Store) {n : ℕ}
+    → ((w : ℕ → ℕ) → total w (t .free) + total (λ c. w (c .at)) (cards t) ≡ total w (s .free) + total (λ c. w (c .at)) (cards s))
+    → Each n (join (cardChains s)) → Each n (join (cardChains t))
+cells-moved s t h =
+    each-moved (λ x. card-cells t x ∙ h (λ y. bit (eqb x y)) ∙ sym (card-cells s x))
+    (omega (arith, h (λ y. 1), card-count s, card-count t, length-total (s .free), length-total (t .free), length-total (cards s), length-total (cards t)))
+
+abbrev pub faultWeight : (ℕ → ℕ) → Card → ℕ
+faultWeight w c = total w (faultCellsOf (c .faults))
+
+pub faultCells-moved : (s t : Store) {n : ℕ}
+    → ((w : ℕ → ℕ) → total w (t .freeFaults) + total (faultWeight w) (cards t) ≡ total w (s .freeFaults) + total (faultWeight w) (cards s))
+    → Each n (join (faultChains s)) → Each n (join (faultChains t))
+faultCells-moved s t h =
+    each-moved (λ x. fault-cells t x ∙ h (λ y. bit (eqb x y)) ∙ sym (fault-cells s x))
+    (omega (arith, h (λ y. 1), fault-count s, fault-count t, length-total (s .freeFaults), length-total (t .freeFaults), ones (cards s), ones (cards t)))
+  where
+    ones : (cs : List Card) → length (histories cs) ≡ total (faultWeight (λ y. 1)) cs
+    ones [] = refl
+    ones (c ∷ cs) = omega (arith, ones cs, length-append (c .faults) (histories cs), length-total (faultCellsOf (c .faults)), length-map (c .faults) (λ (f : Fault). f .at))
 
 -- how many cards have a serial
 pub times-total : (y : List ℕ) (cs : List Card) → length (keep (is y) cs) ≡ total (named y) cs

@@ -19,3 +19,17 @@ pub mod Fresh
 -- What soundness means
 pub mod Walks
 pub mod Meaning
+-- What each step does to it, the auditor's second question, and a chain cut at a card
+pub mod Look
+pub mod Steps
+pub mod Growth
+pub mod Accepted
+pub mod Audit
+pub mod Cut
+-- The four calls by their numbers, and the demands: of the store as lists, then of its words
+pub mod Cases
+pub mod Numbers
+pub mod Demand3
+pub mod Demand2
+pub mod Outcomes
+pub mod Demands

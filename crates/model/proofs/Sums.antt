@@ -135,6 +135,6 @@ total-maps f g (b ∷ bs) =
     omega (arith, total-append f (map g b) (join (map (map g) bs)), total-append (λ x. f (g x)) b (join bs), total-map f g b, total-maps f g bs)
 
 -- the first number of a list and the rest
-pub count-first : (x : ℕ) (l : List ℕ) → 0 < length l → count x l ≡ bit (eqb x (getD l 0 0)) + count x (drop 1 l)
-count-first x [] h = absurd (omega arith)
-count-first x (y ∷ l) h = refl
+pub total-first : (w : ℕ → ℕ) (l : List ℕ) → 0 < length l → total w l ≡ w (getD l 0 0) + total w (drop 1 l)
+total-first w [] h = absurd (omega arith)
+total-first w (y ∷ l) h = refl

@@ -1,12 +1,15 @@
+-- Laws of tests in a row, of serials and of cells
+pub mod Rows
+pub mod SerialLaws
+pub mod CellLaws
 -- Laws of marks and of walks, that know nothing of cards
 pub mod MarkLaws
 pub mod WalkLaws
 pub mod Walking
 pub mod OnceLaws
--- The checker's walks
+-- What the checker decides: its walks, the words before the cells, the cells, and all together
 pub mod PartLaws
 pub mod PartMeans
--- What the checker decides
 pub mod FrontMeans
 pub mod CellMeans
 pub mod HistoryMeans

@@ -3,12 +3,12 @@ use mathlib.Core.Path.{_≡_}
 use mathlib.Core.Bool.{Bool, true, false, _&&_, cond}
 use mathlib.Core.List.{List, [], _∷_, _++_}
 use Prim.Native.Nat.{ℕ, zero, suc, _+_, _-_, _*_, _≤_}
-use lib.Dec.{eqb}
+use lib.Dec.{eqb, ltb}
 use lib.ListN.{length, take, getD}
 use Rattle.rules.specs.Code.{codeOf}
 use Rattle.rules.specs.Table.{top, addressOf}
 use Rattle.model.specs.Lists.{between, all, from}
-use Rattle.model.specs.Serial.{validSerial, validFault}
+use Rattle.model.specs.Serial.{allowed, validSerial, validFault}
 use Rattle.model.specs.Layout.{mostCards, mostFaults, segmentsAt, cardWidth, faultWidth, cardWord, faultWord, packed, bytesOf}
 
 -- the words are as long as their limits ask
@@ -20,6 +20,20 @@ pub record Sized (w : List ℕ) (c f : ℕ) : Type 0 where
   pub long : length w ≡ segmentsAt + top + cardWidth * c + faultWidth * f
   pub limit : getD w 1 0 ≡ c
   pub faultLimit : getD w 2 0 ≡ f
+
+-- the header as the code read it once: the words are sized, and (m, p) is the state that they hold
+pub record Read (w : List ℕ) (c f m p : ℕ) : Type 0 where
+  pub sized : Sized w c f
+  pub maxp : getD w 3 0 ≡ m
+  pub state : getD w 4 0 ≡ p
+
+-- whether byte i may stand in a serial of length n: allowed before it, zero from there on
+unfoldable pub byteFits : ℕ → ℕ → ℕ → Bool
+byteFits b i n = cond (ltb i n) (allowed b) (eqb 0 b)
+
+-- four bytes as a word, the first highest
+abbrev pub fourBytes : ℕ → ℕ → ℕ → ℕ → ℕ
+fourBytes a b c d = ((a * 256 + b) * 256 + c) * 256 + d
 
 -- the four words of sixteen bytes, and the sixteen bytes of four words
 abbrev pub packedAll : List ℕ → List ℕ

@@ -8,7 +8,8 @@ use lib.ListN.{length, getD}
 use Rattle.rules.specs.Table.{least, top, upper, lower, stateOk}
 use Rattle.model.specs.Lists.{all, from}
 use Rattle.model.specs.Layout.{format, directoryAt, segmentsAt, segmentSize, cardsAt, faultsAt, lengthFor, limitsOk, cardWord}
-use Rattle.store.specs.Cells.{cellWord, limitOf, cellFits}
+use Rattle.model.specs.Calls.{scratchNeed}
+use Rattle.store.specs.Cells.{Read, cellWord, limitOf, cellFits}
 use Rattle.store.specs.Walk.{Out, Start, Tot, walkOf, walksFrom}
 
 -- words 0 to 2 and the length
@@ -58,6 +59,18 @@ nextIn w faults i = cellWord w faults i 0
 -- the numbers that mark the cells of a part begin at 0 for cards and behind them for faults
 unfoldable pub baseOf : List ℕ → Bool → ℕ
 baseOf w faults = cond faults (getD w 1 0) 0
+
+-- how many such chains there can be
+unfoldable pub reachOf : List ℕ → Bool → ℕ
+reachOf w faults = cond faults (getD w 1 0) top
+
+-- what a walk asks: the header is read, each cell has a mark of its own within the scratch, and b is a bucket or a free chain
+pub record Asks (w bytes : List ℕ) (c f m p : ℕ) (faults : Bool) (base limit b : ℕ) : Type 0 where
+  pub read : Read w c f m p
+  pub cells : limit ≡ limitOf w faults
+  pub marks : base + limit ≤ 8 * scratchNeed
+  pub scratch : scratchNeed ≤ length bytes
+  pub bucket : b ≤ top
 
 -- the walks of the first n such chains
 unfoldable pub chainsOf : List ℕ → Bool → ℕ → List ℕ → Tot

@@ -3,3 +3,4 @@ pub mod Marks
 pub mod Cells
 pub mod Walk
 pub mod Checker
+pub mod Leaves

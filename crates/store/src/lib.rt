@@ -1,0 +1,13 @@
+// The store of cards: Open, the four calls, and the checker of soundness.
+mod cells;
+mod marks;
+mod serial;
+mod walks;
+
+// What each of the four calls gives.
+pub struct Answer {
+    pub number: u32,
+    pub comparisons: u32,
+    pub scanned: u32,
+    pub faults: u32,
+}

@@ -1,0 +1,22 @@
+-- `cells::bytes_at` meets its contract: it unpacks the four words of the serial.
+use mathlib.Core.Path.{_∙_}
+use borrow.Author.Needs.{needs}
+use Rattle.store.specs.Cells.{bytesAt}
+use Rattle.store.proofs.cells.bytes_at.Statement.{statement}
+use Rattle.store.proofs.cells.bytes_at.Tie as tie
+
+returns : tie.Need-returns
+unfolding bytesAt
+returns c =
+    rw (c .unpack .ensures, c .before .before .before .before .card-word .ensures, c .before .before .before .card-word2 .ensures, c .before .before .card-word3 .ensures, c .before .card-word4 .ensures)
+
+pub bytes-at-spec : {M : Type 1} → statement M
+bytes-at-spec =
+    tie.close
+    (tie.spec
+    (λ c κs. search needs)
+    (λ c κs. search needs)
+    (λ c κs. search needs)
+    (λ c κs. search needs)
+    (λ c κs. search needs)
+    returns)

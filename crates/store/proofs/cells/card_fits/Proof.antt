@@ -1,0 +1,59 @@
+-- `cells::card_fits` meets its contract: the serial, then the address, then the cards before it on the chain.
+use mathlib.Core.Path.{_≡_, sym, _∙_}
+use native.Mathlib.Omega.{arith}
+use borrow.Author.Needs.{needs}
+use borrow.Author.Tests.{not-true, not-false, eq-eqb, ne-eqb}
+use lib.ListN.{take, getD}
+use Rattle.rules.specs.Code.{codeOf}
+use Rattle.rules.specs.Table.{addressOf}
+use Rattle.model.specs.Serial.{validSerial}
+use Rattle.model.specs.Layout.{cardWord}
+use Rattle.store.specs.Cells.{bytesAt, cardFits}
+use Rattle.store.proofs.Rows.{and-rest, and-fails}
+use Rattle.store.proofs.cells.card_fits.Statement.{statement}
+use Rattle.store.proofs.cells.card_fits.Tie as tie
+
+-- the serial is tested as it stands in the cell
+valid : (c : tie.After-valid-serial) → (c .valid-serial .result ≡ validSerial (bytesAt (c .before .before .before .before .args .w .now) (c .before .before .before .before .args .i)) (cardWord (c .before .before .before .before .args .w .now) (c .before .before .before .before .args .i) 1))
+valid c = rw (← (c .before .bytes-at .ensures), ← (c .before .before .card-word .ensures)) (c .valid-serial .ensures)
+
+-- and so is its address
+address : (c : tie.After-reader-address) → (c .reader-address .result ≡ addressOf (codeOf (take (cardWord (c .before .before .before .before .before .before .before .args .w .now) (c .before .before .before .before .before .before .before .args .i) 1) (bytesAt (c .before .before .before .before .before .before .before .args .w .now) (c .before .before .before .before .before .before .before .args .i)))) (getD (c .before .before .before .before .before .before .before .args .w .now) 3 0) (getD (c .before .before .before .before .before .before .before .args .w .now) 4 0))
+address c =
+    let r = c .before .before .before .before .before .before .before .pre .0 in
+    rw (r .maxp, r .state, ← (c .before .before .before .before .bytes-at .ensures), ← (c .before .before .before .before .before .card-word .ensures), ← (c .before .serial-code .ensures)) (c .reader-address .ensures)
+
+returns : tie.Need-returns
+unfolding cardFits
+returns c = sym (and-fails _ (sym (valid (c .before)) ∙ not-true (c .before .valid-serial .result) (c .if1 .taken)))
+
+returns-2 : tie.Need-returns-2
+unfolding cardFits
+returns-2 c =
+    sym (and-rest _ (sym (valid (c .before .before .before .before)) ∙ not-false (c .before .before .before .before .valid-serial .result) (c .before .before .before .if1 .left))
+    ∙ and-fails _ (ne-eqb _ _ (λ e. c .if2 .taken (address (c .before) ∙ e))))
+
+returns-3 : tie.Need-returns-3
+unfolding cardFits
+returns-3 c =
+    let r = c .before .before .before .before .before .before .before .before .before .before .pre .0 in
+    sym (and-rest _ (sym (valid (c .before .before .before .before .before .before)) ∙ not-false (c .before .before .before .before .before .before .valid-serial .result) (c .before .before .before .before .before .if1 .left))
+    ∙ and-rest _ (eq-eqb _ _ (sym (address (c .before .before .before)) ∙ c .before .before .if2 .left))
+    ∙ rw (r .sized .limit, ← (c .before .word .ensures)) (sym (c .met-first .ensures)))
+
+pub card-fits-spec : {M : Type 1} → statement M
+card-fits-spec =
+    tie.close
+    (tie.spec
+    (λ c κs. search needs)
+    (λ c. search needs)
+    (λ c κs. search needs)
+    (λ c κs. search needs)
+    returns
+    (λ c κs. search needs)
+    (λ c κs. search needs)
+    returns-2
+    (λ c. search needs)
+    (λ c κs. search needs)
+    (λ c κs. search needs)
+    returns-3)

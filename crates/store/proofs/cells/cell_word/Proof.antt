@@ -1,0 +1,43 @@
+-- `cells::cell_word` meets its contract: each part has its own limit and width.
+use Prim.Native.Nat.{_≤_, _<_}
+use native.Mathlib.Omega.{arith}
+use lib.ListN.{getD}
+use Rattle.model.specs.Layout.{cardWidth, faultWidth}
+use Rattle.store.specs.Cells.{cellWord, limitOf, widthOf}
+use Rattle.store.proofs.cells.cell_word.Statement.{statement}
+use Rattle.store.proofs.cells.cell_word.Tie as tie
+
+fault-word-requires : tie.Need-fault-word-requires
+unfolding limitOf widthOf
+fault-word-requires c κs =
+    let p = c .before .before .pre in
+    let s = p .0 in
+    let a : c .before .before .args .i ≤ getD (c .before .before .args .w .now) 2 0 = rw (c .if1 .taken) at (p .2) in
+    let b : c .before .before .args .k < faultWidth = rw (c .if1 .taken) at (p .3) in
+    (s, p .1, omega arith, b)
+
+card-word-requires : tie.Need-card-word-requires
+unfolding limitOf widthOf
+card-word-requires c κs =
+    let p = c .before .before .pre in
+    let s = p .0 in
+    let a : c .before .before .args .i ≤ getD (c .before .before .args .w .now) 1 0 = rw (c .if1 .left) at (p .2) in
+    let b : c .before .before .args .k < cardWidth = rw (c .if1 .left) at (p .3) in
+    (s, p .1, omega arith, b)
+
+returns : tie.Need-returns
+unfolding cellWord
+returns c = rw (c .before .if1 .taken) (c .fault-word .ensures)
+
+returns-2 : tie.Need-returns-2
+unfolding cellWord
+returns-2 c = rw (c .before .if1 .left) (c .card-word .ensures)
+
+pub cell-word-spec : {M : Type 1} → statement M
+cell-word-spec =
+    tie.close
+    (tie.spec
+    fault-word-requires
+    card-word-requires
+    returns
+    returns-2)

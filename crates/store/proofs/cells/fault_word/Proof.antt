@@ -1,0 +1,23 @@
+-- `cells::fault_word` meets its contract: the cell stands whole in the words, and the place is that of its word k.
+use borrow.Author.Needs.{needs}
+use Rattle.store.proofs.CellLaws.{fault-place}
+use Rattle.store.proofs.cells.fault_word.Statement.{statement}
+use Rattle.store.proofs.cells.fault_word.Tie as tie
+
+returns : tie.Need-returns
+returns c = fault-place (c .before .pre .0) _ _
+
+pub fault-word-spec : {M : Type 1} → statement M
+fault-word-spec =
+    tie.close
+    (tie.spec
+    (λ c. search needs)
+    (λ c. search needs)
+    (λ c. search needs)
+    (λ c. search needs)
+    (λ c. search needs)
+    (λ c. search needs)
+    (λ c. search needs)
+    (λ c. search needs)
+    (λ c. search needs)
+    returns)

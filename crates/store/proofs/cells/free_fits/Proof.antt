@@ -1,0 +1,63 @@
+-- `cells::free_fits` meets its contract: the loop tests words 1 to the last; its invariant is that what is left to test decides.
+use mathlib.Core.Path.{_≡_, refl, sym, _∙_, ap}
+use Prim.Native.Nat.{_≤_, _-_}
+use native.Mathlib.Omega.{arith}
+use borrow.Author.Needs.{needs}
+use Rattle.store.specs.Cells.{widthOf, cellWord, freeFits}
+use Rattle.store.proofs.Rows.{run-more, run-fails, run-ends}
+use Rattle.store.proofs.CellLaws.{width-most, zeroFrom, zero-start, zero-more, zero-fails, zero-ends}
+use Rattle.store.proofs.cells.free_fits.Statement.{statement}
+use Rattle.store.proofs.cells.free_fits.Tie as tie
+
+abbrev Inv-loop : tie.InvT-loop
+Inv-loop w c f faults i width k₀ k =
+    (1 ≤ k) × (width ≡ widthOf faults) × (zeroFrom w faults i k width ≡ freeFits w faults i)
+
+abbrev μ-loop : tie.MeasureT-loop
+μ-loop w c f faults i width k₀ k = width - k
+
+loop-holds : tie.Need-loop-holds Inv-loop μ-loop
+loop-holds c = (omega arith, c .width-of .ensures, zero-start _ _ _ (c .width-of .ensures))
+
+cell-word-requires : tie.Need-cell-word-requires Inv-loop μ-loop
+cell-word-requires c κs =
+    let p = c .before .before .before .before .pre in
+    let e = c .before .loop .inv .1 in
+    (p .0, p .1, p .2, omega arith)
+
+returns : tie.Need-returns Inv-loop μ-loop
+returns c =
+    let a = c .before .before .before .before .before .before .args in
+    let l = c .before .before .before .loop in
+    let d : cellWord (a .w .now) (a .faults) (a .i) (l .k) ≡ 0 → ⊥ = λ z. c .if1 .taken (c .before .cell-word .ensures ∙ z) in
+    sym (sym (l .inv .2) ∙ zero-fails (a .w .now) (a .faults) (a .i) (l .k) (c .before .before .before .before .width-of .result) (omega arith) d)
+
+add-k : tie.Need-add-k Inv-loop μ-loop
+add-k c = omega (arith, width-most (c .before .before .before .before .before .before .args .faults), c .before .before .before .loop .inv .1)
+
+loop-again : tie.Need-loop-again Inv-loop μ-loop
+loop-again c =
+    let a = c .before .before .before .before .before .before .args in
+    let l = c .before .before .before .loop in
+    (omega arith, l .inv .1, zero-more (a .w .now) (a .faults) (a .i) (l .k) (c .before .before .before .before .width-of .result) (omega arith) (sym (c .before .cell-word .ensures) ∙ c .if1 .left) ∙ l .inv .2)
+
+returns-2 : tie.Need-returns-2 Inv-loop μ-loop
+returns-2 c =
+    let a = c .before .before .before .before .args in
+    let l = c .before .loop in
+    sym (sym (l .inv .2) ∙ zero-ends (a .w .now) (a .faults) (a .i) (l .k) (c .before .before .width-of .result) (omega arith))
+
+pub free-fits-spec : {M : Type 1} → statement M
+free-fits-spec =
+    tie.close
+    (tie.spec
+    Inv-loop
+    μ-loop
+    (λ c κs. tt)
+    loop-holds
+    cell-word-requires
+    returns
+    add-k
+    (λ c. omega arith)
+    loop-again
+    returns-2)

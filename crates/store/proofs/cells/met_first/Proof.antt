@@ -1,0 +1,85 @@
+-- `cells::met_first` meets its contract: the loop's invariant is that what the search answers from here is what it answers from the start.
+use mathlib.Core.Path.{_≡_, refl, sym, _∙_, ap}
+use Prim.Native.Nat.{ℕ, _≤_, _-_}
+use native.Mathlib.Omega.{arith}
+use borrow.Author.Needs.{needs}
+use borrow.Author.Tests.{not-true, not-false}
+use Rattle.model.specs.Lists.{between}
+use Rattle.model.proofs.Lists.{between-is}
+use Rattle.store.specs.Cells.{metFirst}
+use Rattle.store.proofs.CellLaws.{met-start, met-here, met-out, met-twin, met-on, met-end}
+use Rattle.store.proofs.cells.met_first.Statement.{statement}
+use Rattle.store.proofs.cells.met_first.Tie as tie
+
+abbrev Inv-loop : tie.InvT-loop
+Inv-loop w c f first i j₀ n₀ j n = (n ≤ c) × (metFirst (c - n) w j i ≡ metFirst c w first i)
+
+abbrev μ-loop : tie.MeasureT-loop
+μ-loop w c f first i j₀ n₀ j n = c - n
+
+loop-holds : tie.Need-loop-holds Inv-loop μ-loop
+loop-holds c = (omega arith, met-start _ _ _ _)
+
+returns : tie.Need-returns Inv-loop μ-loop
+returns c =
+    let a = c .before .before .before .before .args in
+    let l = c .before .before .loop in
+    sym (sym (l .inv .1) ∙ met-here (a .w .now) (l .j) (a .i) (a .c) (l .n) (omega arith) (c .if1 .taken))
+
+returns-2 : tie.Need-returns-2 Inv-loop μ-loop
+returns-2 c =
+    let a = c .before .before .before .before .before .before .args in
+    let l = c .before .before .before .before .loop in
+    let e = ap (λ (m : ℕ). between 1 m (l .j)) (c .before .before .before .before .before .before .pre .0 .limit) ∙ sym (c .before .within .ensures) ∙ not-true (c .before .within .result) (c .if2 .taken) in
+    sym (sym (l .inv .1) ∙ met-out (a .w .now) (l .j) (a .i) (a .c) (l .n) (omega arith) (c .before .before .if1 .left) e)
+
+same-key-requires : tie.Need-same-key-requires Inv-loop μ-loop
+same-key-requires c κs =
+    let e = between-is 1 _ _ .0 (sym (c .before .within .ensures) ∙ not-false (c .before .within .result) (c .if2 .left)) in
+    (c .before .before .before .before .before .before .pre .0, e .0, e .1, c .before .before .before .before .before .before .pre .1, c .before .before .before .before .before .before .pre .2)
+
+returns-3 : tie.Need-returns-3 Inv-loop μ-loop
+returns-3 c =
+    let a = c .before .before .before .before .before .before .before .before .args in
+    let l = c .before .before .before .before .before .before .loop in
+    let e = ap (λ (m : ℕ). between 1 m (l .j)) (c .before .before .before .before .before .before .before .before .pre .0 .limit) ∙ sym (c .before .before .before .within .ensures) ∙ not-false (c .before .before .before .within .result) (c .before .before .if2 .left) in
+    sym (sym (l .inv .1) ∙ met-twin (a .w .now) (l .j) (a .i) (a .c) (l .n) (omega arith) (c .before .before .before .before .if1 .left) e (sym (c .before .same-key .ensures) ∙ c .if3 .taken))
+
+card-word-requires : tie.Need-card-word-requires Inv-loop μ-loop
+card-word-requires c κs =
+    let e = between-is 1 _ _ .0 (sym (c .before .before .before .within .ensures) ∙ not-false (c .before .before .before .within .result) (c .before .before .if2 .left)) in
+    (c .before .before .before .before .before .before .before .before .pre .0, e .0, e .1, omega arith)
+
+loop-again : tie.Need-loop-again Inv-loop μ-loop
+loop-again c =
+    let a = c .before .before .before .before .before .before .before .before .before .args in
+    let l = c .before .before .before .before .before .before .before .loop in
+    let e = ap (λ (m : ℕ). between 1 m (l .j)) (c .before .before .before .before .before .before .before .before .before .pre .0 .limit) ∙ sym (c .before .before .before .before .within .ensures) ∙ not-false (c .before .before .before .before .within .result) (c .before .before .before .if2 .left) in (
+      omega arith,
+      rw (c .card-word .ensures)
+          (met-on (a .w .now) (l .j) (a .i) (a .c) (l .n) (omega arith) (c .before .before .before .before .before .if1 .left) e (sym (c .before .before .same-key .ensures) ∙ c .before .if3 .left) ∙ l .inv .1),
+    )
+
+returns-4 : tie.Need-returns-4 Inv-loop μ-loop
+returns-4 c =
+    let a = c .before .before .before .args in
+    let l = c .before .loop in
+    sym (sym (l .inv .1) ∙ met-end (a .w .now) (l .j) (a .i) (a .c) (l .n) (omega arith))
+
+pub met-first-spec : {M : Type 1} → statement M
+met-first-spec =
+    tie.close
+    (tie.spec
+    Inv-loop
+    μ-loop
+    loop-holds
+    returns
+    (λ c κs. tt)
+    returns-2
+    same-key-requires
+    returns-3
+    card-word-requires
+    (λ c. omega arith)
+    (λ c. omega arith)
+    loop-again
+    returns-4)

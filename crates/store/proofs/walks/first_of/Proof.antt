@@ -1,0 +1,50 @@
+-- `walks::first_of` meets its contract: a bucket's word, or the first fault of a card.
+use mathlib.Core.Path.{_≡_}
+use Prim.Native.Nat.{_<_}
+use native.Mathlib.Omega.{arith}
+use borrow.Author.Needs.{needs}
+use lib.ListN.{getD}
+use Rattle.rules.specs.Table.{top}
+use Rattle.store.specs.Checker.{firstOf, reachOf}
+use Rattle.store.proofs.walks.first_of.Statement.{statement}
+use Rattle.store.proofs.walks.first_of.Tie as tie
+
+-- the chain is one of those that there are
+card : (c : tie.Then1) → c .before .before .args .j < c .before .before .args .c
+unfolding reachOf
+card c =
+    let s = c .before .before .pre .0 in
+    let a : c .before .before .args .j < getD (c .before .before .args .w .now) 1 0 = rw (c .if1 .taken) at (c .before .before .pre .1) in
+    omega arith
+
+add-card-word : tie.Need-add-card-word
+add-card-word c = omega (arith, card c, c .before .before .pre .0 .most)
+
+card-word-requires : tie.Need-card-word-requires
+card-word-requires c κs = (c .before .before .pre .0, omega arith, omega (arith, card c), omega arith)
+
+word-requires : tie.Need-word-requires
+unfolding reachOf
+word-requires c κs =
+    let s = c .before .before .pre .0 in
+    let a : c .before .before .args .j < top = rw (c .if1 .left) at (c .before .before .pre .1) in
+    omega arith
+
+returns : tie.Need-returns
+unfolding firstOf
+returns c = rw (c .before .if1 .taken) (c .card-word .ensures)
+
+returns-2 : tie.Need-returns-2
+unfolding firstOf
+returns-2 c = rw (c .before .if1 .left) (c .word .ensures)
+
+pub first-of-spec : {M : Type 1} → statement M
+first-of-spec =
+    tie.close
+    (tie.spec
+    add-card-word
+    card-word-requires
+    (λ c. search needs)
+    word-requires
+    returns
+    returns-2)

@@ -1,0 +1,144 @@
+// Serials and faults: which are valid, and a serial's sixteen bytes packed into and out of four words.
+ghost use mathlib.Core.Path.{_≡_};
+ghost use mathlib.Core.List.{[], _∷_};
+ghost use Prim.Native.Nat.{_≤_, _/_, _%_, _^_};
+ghost use Rattle.model.specs.Lists.{between};
+ghost use Rattle.model.specs.Serial.{allowed, validSerial, validFault};
+ghost use Rattle.model.specs.Layout.{packed};
+ghost use Rattle.store.specs.Cells.{packedAll, unpackedAll, fourBytes, byteFits};
+
+// A number from lo to hi.
+pub fn within(lo: u32, hi: u32, x: u32) -> bool
+    ensures { λ r. ⌜ r ≡ between lo hi x ⌝ }
+{
+    if lo <= x { x <= hi } else { false }
+}
+
+// A digit, an upper-case letter or a hyphen.
+pub fn is_allowed(b: u32) -> bool
+    ensures { λ r. ⌜ r ≡ allowed b ⌝ }
+{
+    if within(48, 57, b) {
+        return true;
+    }
+    if within(65, 90, b) {
+        return true;
+    }
+    b == 45
+}
+
+// A day, 1 to 65,535, and a code, 1 to 9,999.
+pub fn valid_fault(day: u32, code: u32) -> bool
+    ensures { λ r. ⌜ r ≡ validFault day code ⌝ }
+{
+    if !within(1, 65535, day) {
+        return false;
+    }
+    within(1, 9999, code)
+}
+
+// Whether byte i may stand in a serial of length len: allowed before it, zero from there on.
+fn byte_fits(b: u8, i: usize, len: usize) -> bool
+    ensures { λ r. ⌜ r ≡ byteFits b i len ⌝ }
+{
+    if i < len {
+        is_allowed(b as u32)
+    } else {
+        0 == b
+    }
+}
+
+// Sixteen bytes and a length, as a serial travels.
+pub fn valid_serial(serial: [u8; 16], len: usize) -> bool
+    ensures { λ r. ⌜ r ≡ validSerial serial len ⌝ }
+{
+    if len < 1 {
+        return false;
+    }
+    if 16 < len {
+        return false;
+    }
+    let mut i: usize = 0;
+    while i < 16 {
+        if !byte_fits(serial[i], i, len) {
+            return false;
+        }
+        i += 1;
+    }
+    true
+}
+
+// Four bytes as a word, the first highest.
+fn word4(a: u8, b: u8, c: u8, d: u8) -> u32
+    ensures { λ r. ⌜ r ≡ fourBytes a b c d ⌝ }
+{
+    ((a as u32 * 256 + b as u32) * 256 + c as u32) * 256 + d as u32
+}
+
+// Four bytes of a serial from k on, as a word.
+fn word_of(s: [u8; 16], k: usize) -> u32
+    requires { ⌜ k ≤ 12 ⌝ }
+    ensures { λ r. ⌜ r ≡ packed s k ⌝ }
+{
+    word4(s[k], s[k + 1], s[k + 2], s[k + 3])
+}
+
+// The four words of a serial's sixteen bytes.
+pub fn pack(s: [u8; 16]) -> [u32; 4]
+    ensures { λ r. ⌜ r ≡ packedAll s ⌝ }
+{
+    let a = word_of(s, 0);
+    let b = word_of(s, 4);
+    let c = word_of(s, 8);
+    let d = word_of(s, 12);
+    [a, b, c, d]
+}
+
+// The bytes of a word, the highest first.
+fn byte3(x: u32) -> u8
+    ensures { λ r. ⌜ r ≡ x / 2 ^ 24 ⌝ }
+{
+    (x / 16777216) as u8
+}
+
+fn byte2(x: u32) -> u8
+    ensures { λ r. ⌜ r ≡ x / 2 ^ 16 % 256 ⌝ }
+{
+    (x / 65536 % 256) as u8
+}
+
+fn byte1(x: u32) -> u8
+    ensures { λ r. ⌜ r ≡ x / 2 ^ 8 % 256 ⌝ }
+{
+    (x / 256 % 256) as u8
+}
+
+fn byte0(x: u32) -> u8
+    ensures { λ r. ⌜ r ≡ x % 256 ⌝ }
+{
+    (x % 256) as u8
+}
+
+// The sixteen bytes of four words.
+pub fn unpack(a: u32, b: u32, c: u32, d: u32) -> [u8; 16]
+    ensures { λ r. ⌜ r ≡ unpackedAll a b c d ⌝ }
+{
+    [
+        byte3(a),
+        byte2(a),
+        byte1(a),
+        byte0(a),
+        byte3(b),
+        byte2(b),
+        byte1(b),
+        byte0(b),
+        byte3(c),
+        byte2(c),
+        byte1(c),
+        byte0(c),
+        byte3(d),
+        byte2(d),
+        byte1(d),
+        byte0(d),
+    ]
+}

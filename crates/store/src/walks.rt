@@ -1,0 +1,165 @@
+// Walks of chains over marks: each cell is within its limit, stands in no chain walked before, and is what its chain asks.
+ghost use mathlib.Core.Path.{_≡_};
+ghost use mathlib.Core.Bool.{Bool, cond, _&&_};
+ghost use mathlib.Core.List.{map};
+ghost use Prim.Native.Nat.{ℕ, _+_, _≤_, _<_};
+ghost use Rattle.rules.specs.Table.{top};
+ghost use Rattle.model.specs.Lists.{from};
+ghost use Rattle.store.specs.Cells.{Sized, cellFits};
+ghost use Rattle.store.specs.Walk.{mayCome, walkOf, walksFrom, Did, DidAll};
+ghost use Rattle.store.specs.Checker.{Asks, nextIn, firstOf, endFits, startOf, reachOf};
+use crate::cells;
+use crate::cells::Header;
+use crate::marks;
+
+// Whether a walk came to the end, how many cells it met, and which was the last.
+pub struct Walked {
+    pub ok: bool,
+    pub count: u32,
+    pub last: u32,
+}
+
+// The same of several walks.
+pub struct Held {
+    pub ok: bool,
+    pub total: u32,
+}
+
+// Whether cell i may come next in a chain.
+fn may_come(
+    w: &[u32],
+    scratch: &[u8],
+    h: Header,
+    faults: bool,
+    b: u32,
+    base: usize,
+    limit: u32,
+    i: u32,
+) -> bool
+    requires { ⌜ Asks (now w) (now scratch) (h .cards) (h .faults) (h .maxp) (h .p) faults base limit b × (1 ≤ i) ⌝ }
+    ensures { λ r. ⌜ r ≡ mayCome (cellFits (now (w .entry)) faults b) (now (scratch .entry)) base limit i ⌝ }
+{
+    if limit < i {
+        return false;
+    }
+    if marks::is_marked(scratch, base + (i - 1) as usize) {
+        return false;
+    }
+    cells::cell_fits(w, h, faults, b, i)
+}
+
+// Follows a chain from `first` to its end, and marks each cell i as number base + i - 1.
+pub fn walk(
+    w: &[u32],
+    scratch: &mut [u8],
+    h: Header,
+    faults: bool,
+    b: u32,
+    base: usize,
+    limit: u32,
+    first: u32,
+) -> Walked
+    requires { ⌜ Asks (now w) (now scratch) (h .cards) (h .faults) (h .maxp) (h .p) faults base limit b ⌝ }
+    ensures { λ r. ⌜ Did (walkOf (cellFits (now (w .entry)) faults b) (nextIn (now (w .entry)) faults) base limit (now (scratch .entry)) first) (r .ok) (r .count) (r .last) (now (scratch .exit)) ⌝ }
+{
+    let c = h.cards;
+    let f = h.faults;
+    let mut i = first;
+    let mut n: u32 = 0;
+    let mut last: u32 = 0;
+    while i != 0 {
+        if !may_come(w, scratch, h, faults, b, base, limit, i) {
+            return Walked {
+                ok: false,
+                count: 0,
+                last: 0,
+            };
+        }
+        marks::mark(scratch, base + (i - 1) as usize);
+        n += 1;
+        last = i;
+        i = cells::cell_word(w, c, f, faults, i, 0);
+    }
+    Walked {
+        ok: true,
+        count: n,
+        last,
+    }
+}
+
+// The first cell of chain j: of bucket j, or of the history of card j + 1.
+fn first_of(w: &[u32], c: u32, f: u32, faults: bool, j: u32) -> u32
+    requires { ⌜ Sized (now w) c f × (j < reachOf (now w) faults) ⌝ }
+    ensures { λ r. ⌜ r ≡ firstOf (now (w .entry)) faults j ⌝ }
+{
+    if faults {
+        cells::card_word(w, c, f, j + 1, 6)
+    } else {
+        cells::word(w, cells::SEGMENTS + j as usize)
+    }
+}
+
+// What chain j asks of its cells: bucket j, or no bucket.
+fn bucket_of(faults: bool, j: u32) -> u32
+    ensures { λ r. ⌜ r ≡ cond faults 0 j ⌝ }
+{
+    if faults { 0 } else { j }
+}
+
+// The count and the last fault of card j + 1's history are true; a bucket has no such words.
+fn end_fits(w: &[u32], c: u32, f: u32, faults: bool, j: u32, count: u32, last: u32) -> bool
+    requires { ⌜ Sized (now w) c f × (j < reachOf (now w) faults) ⌝ }
+    ensures { λ r. ⌜ r ≡ endFits (now (w .entry)) faults j count last ⌝ }
+{
+    if !faults {
+        return true;
+    }
+    if count != cells::card_word(w, c, f, j + 1, 8) {
+        return false;
+    }
+    last == cells::card_word(w, c, f, j + 1, 7)
+}
+
+// A walk of chain j came to its end, and that is where the words say.
+fn passes(w: &[u32], c: u32, f: u32, faults: bool, j: u32, t: Walked) -> bool
+    requires { ⌜ Sized (now w) c f × (j < reachOf (now w) faults) ⌝ }
+    ensures { λ r. ⌜ r ≡ (t .ok && endFits (now (w .entry)) faults j (t .count) (t .last)) ⌝ }
+{
+    if !t.ok {
+        return false;
+    }
+    end_fits(w, c, f, faults, j, t.count, t.last)
+}
+
+// The walks of chains 0 to n - 1, one after the other over the same marks.
+pub fn chains(
+    w: &[u32],
+    scratch: &mut [u8],
+    h: Header,
+    faults: bool,
+    base: usize,
+    limit: u32,
+    n: u32,
+) -> Held
+    requires { ⌜ Asks (now w) (now scratch) (h .cards) (h .faults) (h .maxp) (h .p) faults base limit 0 × (n ≤ reachOf (now w) faults) ⌝ }
+    ensures { λ r. ⌜ DidAll (walksFrom (nextIn (now (w .entry)) faults) base limit (map (startOf (now (w .entry)) faults) (from 0 n)) (now (scratch .entry)) 0) (r .ok) (r .total) (now (scratch .exit)) ⌝ }
+{
+    let c = h.cards;
+    let f = h.faults;
+    let mut j: u32 = 0;
+    let mut total: u32 = 0;
+    while j < n {
+        let first = first_of(w, c, f, faults, j);
+        let b = bucket_of(faults, j);
+        let t = walk(w, scratch, h, faults, b, base, limit, first);
+        if !passes(w, c, f, faults, j, t) {
+            return Held {
+                ok: false,
+                total: 0,
+            };
+        }
+        total += t.count;
+        j += 1;
+    }
+    Held { ok: true, total }
+}

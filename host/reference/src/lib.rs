@@ -1,0 +1,16 @@
+//! The card store of document 01, written a second time. It is made from the text of the rules alone and shares no line
+//! and, where there is a choice, no method with the proved crates: what both get right is unlikely to be one error made twice.
+//!
+//! Here a store is lists: buckets of cards, each card with its faults, and two lists of free cells ([`lists`]). A call reads the
+//! words into lists if they are sound ([`sound`]), works on the lists ([`operations`]) and writes all words anew ([`layout`]).
+//! So no operation here follows or mends a chain of cells; it is the layout alone that knows of cells and of next words.
+
+pub mod calls;
+pub mod job;
+pub mod layout;
+pub mod lists;
+pub mod operations;
+pub mod random;
+pub mod rules;
+pub mod serial;
+pub mod sound;
