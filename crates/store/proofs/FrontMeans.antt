@@ -76,7 +76,8 @@ module _ (w : List ℕ) where
       let (o₁₃, o₅) = both (eqb (getD w 13 0) (lengthFor c f)) _ o₄ in
       let (o₁₄, o₁₅) = both (eqb (getD w 14 0) 0) (eqb (getD w 15 0) 0) o₅ in
       let (n₁, n₂) = both (leb (getD w 5 0) (upper * b)) (eqb b least || leb (lower * b) (getD w 5 0)) load in
-      let entry : (k : ℕ) → k < top / segmentSize → getD w (directoryAt + k) 0 ≡ entryFor b k = λ k h. eqb-true (getD w (directoryAt + k) 0) (entryFor b k) (all-from entry-right 0 (top / segmentSize) entries k (omega arith) h) in
+      let entry : (k : ℕ) → k < top / segmentSize → getD w (directoryAt + k) 0 ≡ entryFor b k =
+      λ k h. eqb-true (getD w (directoryAt + k) 0) (entryFor b k) (all-from entry-right 0 (top / segmentSize) entries k (omega arith) h) in
       record {
         formatWord = eqb-true (getD w 0 0) format l₂;
         limits = l₄;

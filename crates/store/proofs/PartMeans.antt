@@ -94,10 +94,18 @@ module _ (w : List ℕ) (faults : Bool) where
   part-found : Part w faults → Found w faults
   unfolding Inside
   part-found p =
+      let in-free : (i : ℕ) → In i (freeIn w faults) → Inside i =
+      λ i q. p .cells .cells i (omega (arith, times-in i, times-count i (freeIn w faults))) in
+      let in-chain : (j i : ℕ) → j < chainCount w faults → In i (chainIn w faults j) → Inside i =
+      λ j i h q. p .cells .cells i (omega (arith, times-in i, times-count i (chainsIn w faults), in-one (chainIn w faults) (chainCount w faults) j i h q)) in
       record {
-        free = record { leads = p .freeChain; inside = in-every Inside (freeIn w faults) (λ i h. p .cells .cells i (omega (arith, times-in i, times-count i (freeIn w faults)))); fine = in-every _ (freeIn w faults) (p .freeGood) };
+        free = record { leads = p .freeChain; inside = in-every Inside (freeIn w faults) in-free; fine = in-every _ (freeIn w faults) (p .freeGood) };
         chains = λ j h. record {
-          runs = record { leads = p .chain j h; inside = in-every Inside (chainIn w faults j) (λ i q. p .cells .cells i (omega (arith, times-in i, times-count i (chainsIn w faults), in-one (chainIn w faults) (chainCount w faults) j i h q))); fine = in-every _ (chainIn w faults j) (λ i. p .good j i h) };
+          runs = record {
+            leads = p .chain j h;
+            inside = in-every Inside (chainIn w faults j) (λ i. in-chain j i h);
+            fine = in-every _ (chainIn w faults j) (λ i. p .good j i h);
+          };
           fits = p .ends j h;
         };
         apart = λ x a b. omega (arith, p .cells .once x a b, times-in x);
