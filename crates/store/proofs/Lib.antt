@@ -6,3 +6,14 @@ pub mod FrontLaws
 -- Laws of marks and of walks, that know nothing of cards
 pub mod MarkLaws
 pub mod WalkLaws
+pub mod Walking
+pub mod OnceLaws
+-- What the checker decides: its walks, the words before the cells, the cells, and all together
+pub mod PartLaws
+pub mod PartMeans
+pub mod FrontMeans
+pub mod CellMeans
+pub mod HistoryMeans
+pub mod PartsSound
+pub mod SoundParts
+pub mod Decides

@@ -2,10 +2,10 @@
 -- sets that bit and leaves the others (`marked-same`, `marked-other`). Numbers below 8 * scratchNeed have their bit in the first
 -- scratchNeed bytes, so marking leaves the bytes behind those as they were (`rest-marked`), and cleaning in the end shows nothing
 -- of what was marked (`cleaned-again`).
-use mathlib.Core.Path.{_≡_, refl, sym, ap, subst, _∙_}
-use mathlib.Core.Bool.{Bool, true, false, not}
+use mathlib.Core.Path.{_≡_, sym, ap, subst, _∙_}
+use mathlib.Core.Bool.{true, false, not}
 use mathlib.Core.Logic.{⊎-elim}
-use mathlib.Core.List.{List, [], _∷_, _++_}
+use mathlib.Core.List.{List, _++_}
 use Prim.Native.Nat.{ℕ, zero, suc, _+_, _-_, _*_, _/_, _%_, _^_, _<_, _≤_}
 use native.Mathlib.Nat.{zero-mul, one-mul, div-self, div-eq-of-lt, pow-suc, mul-mod-left, zero-div}
 use native.Mathlib.Omega.{arith}
