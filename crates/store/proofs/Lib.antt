@@ -10,6 +10,7 @@ pub mod Walking
 pub mod OnceLaws
 -- What the checker decides: its walks, the words before the cells, the cells, and all together
 pub mod PartLaws
+pub mod PartRuns
 pub mod PartMeans
 pub mod FrontMeans
 pub mod CellMeans

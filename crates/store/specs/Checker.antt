@@ -97,6 +97,11 @@ pub record Checked : Type 0 where
   pub ok : Bool
   pub bytes : List ℕ
 
+-- what a function that checks a part answers and leaves is what `partOf` says
+pub record DidPart (o : Checked) (ok : Bool) (left : List ℕ) : Type 0 where
+  pub ok-is : ok ≡ o .ok
+  pub left-is : left ≡ o .bytes
+
 unfoldable pub partOf : List ℕ → Bool → List ℕ → Checked
 partOf w faults bytes =
     let free = freeOf w faults bytes in

@@ -1,6 +1,7 @@
 // The store of cards: Open, the four calls, and the checker of soundness.
 mod cells;
 mod front;
+mod parts;
 mod marks;
 mod serial;
 mod walks;

@@ -1,0 +1,80 @@
+// The two parts of the checker: the cards with their free chain, the faults with theirs.
+ghost use mathlib.Core.Path.{_≡_};
+ghost use mathlib.Core.Bool.{Bool, cond};
+ghost use Prim.Native.Nat.{ℕ, _+_, _≤_};
+ghost use lib.ListN.{length, getD};
+ghost use Rattle.rules.specs.Table.{top};
+ghost use Rattle.model.specs.Layout.{segmentsAt};
+ghost use Rattle.model.specs.Calls.{scratchNeed};
+ghost use Rattle.store.specs.Cells.{Read};
+ghost use Rattle.store.specs.Checker.{heldWord, partOf, DidPart};
+use crate::cells;
+use crate::cells::Header;
+use crate::walks;
+
+// How many cells a part has, the number that marks its first, and how many chains it has beside the free one.
+fn limit_of(h: Header, faults: bool) -> u32
+    ensures { λ r. ⌜ r ≡ cond faults (h .faults) (h .cards) ⌝ }
+{
+    if faults { h.faults } else { h.cards }
+}
+
+fn base_of(h: Header, faults: bool) -> usize
+    ensures { λ r. ⌜ r ≡ cond faults (h .cards) 0 ⌝ }
+{
+    let c = h.cards;
+    if faults { c as usize } else { 0 }
+}
+
+fn chain_count(h: Header, faults: bool) -> u32
+    requires { ⌜ h .maxp + h .p ≤ top ⌝ }
+    ensures { λ r. ⌜ r ≡ cond faults (h .cards) (h .maxp + h .p) ⌝ }
+{
+    if faults { h.cards } else { h.maxp + h.p }
+}
+
+// The first free cell of a part, and the word that says how many of its cells are held.
+fn free_word(w: &[u32], faults: bool) -> u32
+    requires { ⌜ segmentsAt + top ≤ length (now w) ⌝ }
+    ensures { λ r. ⌜ r ≡ getD (now (w .entry)) (cond faults 8 7) 0 ⌝ }
+{
+    if faults {
+        cells::word(w, 8)
+    } else {
+        cells::word(w, 7)
+    }
+}
+
+fn held_word(w: &[u32], faults: bool) -> u32
+    requires { ⌜ segmentsAt + top ≤ length (now w) ⌝ }
+    ensures { λ r. ⌜ r ≡ heldWord (now (w .entry)) faults ⌝ }
+{
+    if faults {
+        cells::word(w, 6)
+    } else {
+        cells::word(w, 5)
+    }
+}
+
+// All cells of a part stand in a chain, once, and as many as the header says are held.
+pub fn part_fits(w: &[u32], scratch: &mut [u8], h: Header, faults: bool) -> bool
+    requires { ⌜ Read (now w) (h .cards) (h .faults) (h .maxp) (h .p) × (h .maxp + h .p ≤ top) × (scratchNeed ≤ length (now scratch)) ⌝ }
+    ensures { λ r. ⌜ DidPart (partOf (now (w .entry)) faults (now (scratch .entry))) r (now (scratch .exit)) ⌝ }
+{
+    let limit = limit_of(h, faults);
+    let base = base_of(h, faults);
+    let first = free_word(w, faults);
+    let free = walks::walk(w, scratch, h, faults, cells::TOP, base, limit, first);
+    if !free.ok {
+        return false;
+    }
+    let n = chain_count(h, faults);
+    let held = walks::chains(w, scratch, h, faults, base, limit, n);
+    if !held.ok {
+        return false;
+    }
+    if held.total != held_word(w, faults) {
+        return false;
+    }
+    free.count as u64 + held.total as u64 == limit as u64
+}
