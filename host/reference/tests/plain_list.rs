@@ -4,7 +4,10 @@ mod common;
 use common::Reader;
 use reference::calls;
 use reference::job::{self, Tally};
+use reference::lists::{Card, Store};
 use reference::random::Random;
+use reference::rules;
+use std::cmp::Ordering;
 
 /// A card of the plain list: its serial and its faults in filing order.
 type Plain = (String, Vec<[u32; 2]>);
@@ -30,12 +33,26 @@ struct Book {
 }
 
 impl Book {
+    fn new(cards: u32, faults: u32) -> Book {
+        Book { cards: vec![], card_limit: cards as usize, fault_limit: faults as usize, accepted: 0, gone: 0 }
+    }
+
     fn find(&mut self, serial: &str) -> Option<&mut Plain> {
         self.cards.iter_mut().find(|card| card.0 == serial)
     }
 
-    fn faults_held(&self) -> usize {
-        self.cards.iter().map(|card| card.1.len()).sum()
+    fn sorted(&self) -> Vec<Plain> {
+        let mut all = self.cards.clone();
+        all.sort();
+        all
+    }
+
+    /// The faults that a done call answers: a filing the card's new count, a listing its length.
+    fn count(&mut self, call: &Call, listed: &[[u32; 2]]) -> usize {
+        match call {
+            Call::File(serial, ..) => self.find(serial).map_or(0, |card| card.1.len()),
+            _ => listed.len(),
+        }
     }
 
     fn enter(&mut self, serial: &str) -> Told {
@@ -124,41 +141,65 @@ fn random_calls(random: &mut Random, serials: usize, count: usize) -> Vec<Call> 
     (0..count).map(|k| random_call(random, serials, if k / WAVE % 2 == 0 { 5 } else { 0 })).collect()
 }
 
-/// The chain and the place of a serial before a call, as the comparisons must tell them.
-fn comparisons_before(reader: &Reader, call: &Call) -> u32 {
+fn serial_of(call: &Call) -> &str {
     let (Call::Enter(serial) | Call::File(serial, ..) | Call::Show(serial) | Call::Withdraw(serial)) = call;
-    let lists = reader.lists();
-    let state = lists.state;
-    let home = reference::rules::address(reference::rules::code(serial.as_bytes()), state.maxp, state.p);
-    let chain = reader.chain(home as usize);
-    chain.iter().position(|held| held == serial).map_or(chain.len(), |place| place + 1) as u32
+    serial
 }
 
+/// The comparisons that a search in this store must tell: the card's place in its chain, or the length of the chain.
+fn comparisons(store: &Store, serial: &str) -> usize {
+    let home = rules::address(rules::code(serial.as_bytes()), store.state.maxp, store.state.p);
+    let chain = &store.buckets[home as usize];
+    let place = chain.iter().position(|card| card.serial.bytes() == serial.as_bytes());
+    place.map_or(chain.len(), |before| before + 1)
+}
+
+/// The cards that a reorganisation between the two must have scanned. A split shares out its bucket, the new card included; a
+/// contraction moves the cards of the last bucket, but for the one that was withdrawn.
+fn scanned(before: &Store, after: &Store, serial: &str) -> usize {
+    let last = |store: &Store| store.buckets.last().unwrap().clone();
+    match after.buckets.len().cmp(&before.buckets.len()) {
+        Ordering::Equal => 0,
+        Ordering::Greater => after.buckets[before.state.p as usize].len() + last(after).len(),
+        Ordering::Less => last(before).iter().filter(|card| card.serial.bytes() != serial.as_bytes()).count(),
+    }
+}
+
+/// Every held card with its history, sorted by serial.
+fn histories(store: &Store) -> Vec<Plain> {
+    let plain = |card: &Card| {
+        let faults = card.faults.iter().map(|fault| [fault.entry.day, fault.entry.code]).collect();
+        (String::from_utf8(card.serial.bytes().to_vec()).unwrap(), faults)
+    };
+    let mut all: Vec<Plain> = store.cards().map(plain).collect();
+    all.sort();
+    all
+}
+
+/// Runs random calls on a fresh store, and holds each to the book and to the chains. Gives the splits and contractions met.
 fn hold_to_the_book(cards: u32, faults: u32, serials: usize, count: usize, seed: u64) -> (usize, usize) {
     let mut random = Random::new(seed);
     let mut reader = Reader::open(cards, faults);
-    let (card_limit, fault_limit) = (cards as usize, faults as usize);
-    let mut book = Book { cards: vec![], card_limit, fault_limit, accepted: 0, gone: 0 };
+    let mut book = Book::new(cards, faults);
     let (mut splits, mut contractions) = (0, 0);
     for call in random_calls(&mut random, serials, count) {
-        let before = (reader.words.clone(), reader.lists());
-        let comparisons = comparisons_before(&reader, &call);
-        let [number, compared, scanned, told] = answer(&mut reader, &call);
-        let (expected, listed) = book.tell(&call);
-        assert_eq!(number, expected, "{call:?}");
-        assert_eq!(compared, if number == 5 { 0 } else { comparisons }, "{call:?}");
-        assert!(number == 0 || reader.words == before.0, "{call:?} is refused and changes the store");
-        if matches!(call, Call::Show(_) | Call::Withdraw(_)) && number == 0 {
-            assert_eq!(told as usize, listed.len());
-            assert_eq!(reader.room[..2 * listed.len()], listed.concat());
-        }
+        let (words, before) = (reader.words.clone(), reader.lists());
+        let answer = answer(&mut reader, &call);
+        let (number, listed) = book.tell(&call);
         let after = reader.lists();
-        assert_eq!((after.cards_held(), after.faults_held()), (book.cards.len(), book.faults_held()));
-        assert_eq!(book.accepted - book.gone, book.faults_held());
-        let (b, grown) = (before.1.buckets.len(), after.buckets.len());
-        assert!(b != grown || scanned == 0, "{call:?}");
-        splits += usize::from(grown > b);
-        contractions += usize::from(grown < b);
+
+        let serial = serial_of(&call);
+        let compared = if number == 5 { 0 } else { comparisons(&before, serial) };
+        let counted = if number == 0 { book.count(&call, &listed) } else { 0 };
+        let expected = [number as usize, compared, scanned(&before, &after, serial), counted];
+        assert_eq!(answer.map(|number| number as usize), expected, "{call:?}");
+        assert_eq!(reader.room[..2 * listed.len()], listed.concat(), "{call:?}");
+        assert!(number == 0 || reader.words == words, "{call:?} is refused and changes the store");
+        assert_eq!(histories(&after), book.sorted(), "{call:?}");
+        assert_eq!(book.accepted - book.gone, after.faults_held(), "{call:?}");
+
+        splits += usize::from(after.buckets.len() > before.buckets.len());
+        contractions += usize::from(after.buckets.len() < before.buckets.len());
     }
     (splits, contractions)
 }

@@ -1,9 +1,10 @@
 //! Which refusal comes first, and what scratch, room, output and tally hold after each.
 mod common;
 
-use common::{numbers, sent, Reader};
+use common::{numbers, sent, serials, Reader};
 use reference::calls;
 use reference::job::{self, Done, Tally};
+use reference::rules;
 
 const TOO_LONG: &str = "0123456789ABCDEFG";
 
@@ -11,7 +12,7 @@ fn done(number: u32, lines: u32, bytes: u32) -> Done {
     Done { number, lines, bytes }
 }
 
-/// A store with the cards 7 and 07 at most, card 7 and one fault at most, that one filed.
+/// A store that can hold one card and one fault, and holds them.
 fn full_reader() -> Reader {
     let mut reader = Reader::open(1, 1);
     reader.enter("7");
@@ -223,15 +224,23 @@ fn the_tally_counts_what_was_accepted_and_stays_at_its_top() {
     assert_eq!((top.entries, top.comparisons), (u64::MAX, u64::MAX));
 }
 
-/// Contractions of empty buckets count as well: the table's size is what changes.
+/// A split of an empty bucket scans nothing and counts all the same, and so does the contraction that takes it back.
 #[test]
 fn the_tally_counts_changes_of_the_number_of_buckets() {
     let mut reader = Reader::open(80, 1);
-    let all: Vec<String> = common::serials(80);
-    let text: String = all.iter().map(|serial| format!("E {serial}\n")).collect();
-    assert_eq!(run(&mut reader, 384, &text, 16_384).tally.splits, 4);
-    let text: String = all.iter().map(|serial| format!("W {serial}\n")).collect();
-    assert_eq!(run(&mut reader, 384, &text, 16_384).tally.contractions, 4);
+    let outside_bucket_0 = |serial: &String| rules::code(serial.as_bytes()) % 16 != 0;
+    let held: Vec<String> = serials(100).into_iter().filter(outside_bucket_0).take(65).collect();
+    let text: String = held.iter().map(|serial| format!("E {serial}\n")).collect();
+    let ran = run(&mut reader, 384, &text, 16_384);
+    assert_eq!((ran.tally.splits, last_scanned(&ran)), (1, "0".to_string()));
+    let text: String = held.iter().take(32).map(|serial| format!("W {serial}\n")).collect();
+    let ran = run(&mut reader, 384, &text, 16_384);
+    assert_eq!((ran.tally.contractions, last_scanned(&ran)), (1, "0".to_string()));
+}
+
+fn last_scanned(ran: &Ran) -> String {
+    let answers = String::from_utf8(ran.out[..ran.done.bytes as usize].to_vec()).unwrap();
+    answers.lines().last().unwrap().split(' ').nth(2).unwrap().to_string()
 }
 
 #[test]

@@ -28,6 +28,17 @@ fn serials_of_16_and_17_bytes() {
 }
 
 #[test]
+fn two_serials_of_one_code() {
+    assert_eq!(rules::code(b"AZ"), rules::code(b"B9"));
+    let mut reader = Reader::open(4, 4);
+    assert_eq!(reader.enter("AZ"), [0, 0, 0, 0]);
+    assert_eq!(reader.show("B9"), [7, 1, 0, 0]);
+    assert_eq!(reader.enter("B9"), [0, 1, 0, 0]);
+    assert_eq!(reader.file("B9", 1, 1), [0, 2, 0, 1]);
+    assert_eq!(reader.show("AZ"), [0, 1, 0, 0]);
+}
+
+#[test]
 fn one_card_at_most() {
     let mut reader = Reader::open(1, 4);
     assert_eq!(reader.enter("7"), [0, 0, 0, 0]);
