@@ -10,9 +10,9 @@ pub mod Walking
 pub mod OnceLaws
 -- What the checker decides: its walks, the words before the cells, the cells, and all together
 pub mod PartLaws
-pub mod PartRuns
 pub mod PartMeans
 pub mod FrontMeans
+pub mod PartRuns
 pub mod CellMeans
 pub mod HistoryMeans
 pub mod PartsSound

@@ -4,7 +4,7 @@ use mathlib.Core.Bool.{Bool, true, false, cond, not, _&&_, _||_}
 use mathlib.Core.List.{List, [], _∷_, map}
 use Prim.Native.Nat.{ℕ, _+_, _-_, _*_, _/_, _≤_}
 use lib.Dec.{eqb, leb, ltb}
-use lib.ListN.{length, getD}
+use lib.ListN.{length, drop, getD}
 use Rattle.rules.specs.Table.{least, top, upper, lower, stateOk}
 use Rattle.model.specs.Lists.{all, from}
 use Rattle.model.specs.Layout.{format, directoryAt, segmentsAt, segmentSize, cardsAt, faultsAt, lengthFor, limitsOk, cardWord}
@@ -114,3 +114,8 @@ partOf w faults bytes =
 -- the words are those of a sound store: the front, then the cards, then the faults
 unfoldable pub checked : List ℕ → List ℕ → Bool
 checked w bytes = frontFits w && (partOf w false bytes .ok && partOf w true (partOf w false bytes .bytes) .ok)
+
+-- what the program answers is `checked`, and no byte behind the marks has changed
+pub record DidCheck (w bytes : List ℕ) (ok : Bool) (left : List ℕ) : Type 0 where
+  pub ok-is : ok ≡ checked w bytes
+  pub rest : drop scratchNeed left ≡ drop scratchNeed bytes

@@ -1,8 +1,14 @@
 // The store of cards: Open, the four calls, and the checker of soundness.
+ghost use mathlib.Core.Path.{_≡_};
+ghost use Prim.Native.Nat.{_≤_};
+ghost use lib.ListN.{length};
+ghost use Rattle.model.specs.Layout.{sound};
+ghost use Rattle.model.specs.Calls.{scratchNeed, cleaned};
+
 mod cells;
 mod front;
-mod parts;
 mod marks;
+mod parts;
 mod serial;
 mod walks;
 
@@ -12,4 +18,16 @@ pub struct Answer {
     pub comparisons: u32,
     pub scanned: u32,
     pub faults: u32,
+}
+
+// Whether any words, of any length and with any content, are those of a sound store. The first 384 bytes of scratch
+// end zero, the rest as they were.
+pub fn check(words: &[u32], scratch: &mut [u8]) -> bool
+    requires { ⌜ scratchNeed ≤ length (now scratch) ⌝ }
+    ensures { λ r. ⌜ (r ≡ sound (now (words .entry))) × (now (scratch .exit) ≡ cleaned (now (scratch .entry))) ⌝ }
+{
+    marks::clear(scratch);
+    let ok = parts::all_fit(words, scratch);
+    marks::clear(scratch);
+    ok
 }

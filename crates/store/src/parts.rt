@@ -7,9 +7,10 @@ ghost use Rattle.rules.specs.Table.{top};
 ghost use Rattle.model.specs.Layout.{segmentsAt};
 ghost use Rattle.model.specs.Calls.{scratchNeed};
 ghost use Rattle.store.specs.Cells.{Read};
-ghost use Rattle.store.specs.Checker.{heldWord, partOf, DidPart};
+ghost use Rattle.store.specs.Checker.{heldWord, partOf, DidPart, checked, DidCheck};
 use crate::cells;
 use crate::cells::Header;
+use crate::front;
 use crate::walks;
 
 // How many cells a part has, the number that marks its first, and how many chains it has beside the free one.
@@ -77,4 +78,19 @@ pub fn part_fits(w: &[u32], scratch: &mut [u8], h: Header, faults: bool) -> bool
         return false;
     }
     free.count as u64 + held.total as u64 == limit as u64
+}
+
+// The front, then the cards, then the faults; bytes of scratch behind the marks stay.
+pub fn all_fit(w: &[u32], scratch: &mut [u8]) -> bool
+    requires { ⌜ scratchNeed ≤ length (now scratch) ⌝ }
+    ensures { λ r. ⌜ DidCheck (now (w .entry)) (now (scratch .entry)) r (now (scratch .exit)) ⌝ }
+{
+    if !front::front_fits(w) {
+        return false;
+    }
+    let h = front::header(w);
+    if !part_fits(w, scratch, h, false) {
+        return false;
+    }
+    part_fits(w, scratch, h, true)
 }

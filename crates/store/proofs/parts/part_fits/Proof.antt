@@ -34,14 +34,16 @@ returns c = part-stops _ _ _ (free (c .before .before .before .before)) (not-tru
 chains-requires : tie.Need-chains-requires
 chains-requires c κs =
     let p = c .before .before .before .before .before .before .before .before .before .before .before .before .before .pre in
-    let f = c .before .before .before .before .before .before .before .before .before .before .before .before .before .args .faults in
-    (record {
-      read = p .0;
-      cells = c .before .before .before .before .before .before .before .before .before .before .limit-of .ensures ∙ limit-is (p .0) f;
-      marks = omega (arith, marks-reach (p .0) f, c .before .before .before .before .before .before .before .before .before .base-of .ensures, c .before .before .before .before .before .before .before .before .before .before .limit-of .ensures);
-      scratch = omega (arith, p .2, c .before .before .before .before .before .before .walk .kept .1 .0);
-      bucket = omega arith;
-    }, omega (arith, chains-reach (p .0) f (p .1), c .before .chain-count .ensures))
+    let f = c .before .before .before .before .before .before .before .before .before .before .before .before .before .args .faults in (
+      record {
+        read = p .0;
+        cells = c .before .before .before .before .before .before .before .before .before .before .limit-of .ensures ∙ limit-is (p .0) f;
+        marks = omega (arith, marks-reach (p .0) f, c .before .before .before .before .before .before .before .before .before .base-of .ensures, c .before .before .before .before .before .before .before .before .before .before .limit-of .ensures);
+        scratch = omega (arith, p .2, c .before .before .before .before .before .before .walk .kept .1 .0);
+        bucket = omega arith;
+      },
+      omega (arith, chains-reach (p .0) f (p .1), c .before .chain-count .ensures),
+    )
 
 held : (c : tie.After-chains) → DidAll (chainsOf (c .before .before .before .before .before .before .before .before .before .before .before .before .before .before .args .w .now) (c .before .before .before .before .before .before .before .before .before .before .before .before .before .before .args .faults) (chainCount (c .before .before .before .before .before .before .before .before .before .before .before .before .before .before .args .w .now) (c .before .before .before .before .before .before .before .before .before .before .before .before .before .before .args .faults)) (c .before .before .before .before .before .before .before .walk .last .1 .0)) (c .chains .result .ok) (c .chains .result .total) (c .chains .last .1 .0)
 held c = did-chains (c .before .before .before .before .before .before .before .before .before .before .before .before .before .before .pre .0) (c .before .before .before .before .before .before .before .before .before .before .before .before .before .before .args .faults) (c .before .before .before .before .before .before .before .before .before .before .base-of .ensures) (c .before .before .before .before .before .before .before .before .before .before .before .limit-of .ensures) _ (c .before .before .chain-count .ensures) (c .chains .ensures)
