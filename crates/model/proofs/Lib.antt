@@ -26,3 +26,6 @@ pub mod Growth
 pub mod Accepted
 pub mod Audit
 pub mod Cut
+-- What each change writes
+pub mod Whole
+pub mod Place
