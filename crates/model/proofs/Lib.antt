@@ -16,6 +16,7 @@ pub mod Serials
 pub mod Decode
 pub mod Sound
 pub mod Fresh
+pub mod Readings
 -- What soundness means
 pub mod Walks
 pub mod Meaning
@@ -29,3 +30,4 @@ pub mod Cut
 -- What each change writes
 pub mod Whole
 pub mod Place
+pub mod File

@@ -1,32 +1,32 @@
 -- A new card's writes (`rep-placed`): the first free cell leaves the free chain, so that it stands in no chain and may be filled; then
 -- the end of the bucket's chain leads to it: its last cell's next word, or the bucket's word where the chain is empty. The counts follow.
 use mathlib.Core.Path.{_≡_, refl, sym, ap, _∙_, subst}
-use mathlib.Core.Logic.{_⊎_, inl, inr, ⊎-elim}
-use mathlib.Core.List.{List, [], _∷_, _++_, map, append-nil}
+use mathlib.Core.Logic.{_⊎_, inl, inr}
+use mathlib.Core.List.{List, [], _∷_, _++_, map}
 use mathlib.Core.Bool.{true}
 use Prim.Native.Nat.{ℕ, suc, _+_, _≤_, _<_}
 use native.Mathlib.Omega.{arith}
-use lib.Dec.{eqb, lit<}
-use lib.ListN.{length, getD, set, drop, length-map, List·getD-map}
+use lib.Dec.{lit<}
+use lib.ListN.{length, set, drop, length-map, List·getD-map}
 use lib.Seq.{sets}
-use Rattle.rules.proofs.Tests.{eq?}
 use Rattle.model.specs.Lists.{join}
 use Rattle.model.specs.Serial.{serialOk}
 use Rattle.model.specs.Model.{Store, Card, cards, held, faultsHeld, addressIn, chainFor, cellsOf, newCard, placed}
 use Rattle.model.specs.Layout.{Cell, cardWidth, faultWidth, segmentsAt, cardsAt, faultsAt, cardCell, freeCell, cardChains, faultChains, header, directory, segments, front, first, last, cardWord}
 use Rattle.model.specs.Words.{cardAt, linkAt, newWords, placeWords}
 use Rattle.model.proofs.Lists.{map-append, map-set, every-set, every-append, every-join}
-use Rattle.model.proofs.Sums.{bit, bit-same, bit-other, total-append, total-one, length-total}
+use Rattle.model.proofs.Sums.{length-total}
 use Rattle.model.proofs.Each.{many}
 use Rattle.model.proofs.Places.{cellAt-end}
 use Rattle.model.proofs.Chains.{Stands}
 use Rattle.model.proofs.Part.{cellIn, Held}
 use Rattle.model.proofs.Writes.{Apart, cell-here}
 use Rattle.model.proofs.Fair.{one, filings, card-count, faults-total}
-use Rattle.model.proofs.Rep.{Rep, rep-front, size-top}
+use Rattle.model.proofs.Rep.{Rep, size-top}
+use Rattle.model.proofs.Readings.{held-at, free-at}
 use Rattle.model.proofs.Look.{look, address-in}
 use Rattle.model.proofs.Steps.{placed-total, placed-fair}
-use Rattle.model.proofs.Whole.{Whole, rep-whole, whole-rep, each-apart, front-write, card-fill, card-chain, card-cut, card-in, cards-fit, fronted, fronted-bucket, segments-chain, segments-kept, Recorded, held-recorded, recorded-held, taken-in, taken-none, taken-apart, taken-rest, taken-next, ends, last-nil, last-snoc, link-first, link-behind}
+use Rattle.model.proofs.Whole.{Whole, rep-whole, whole-rep, each-apart, front-write, card-fill, card-chain, card-behind, cards-fit, fronted, fronted-bucket, segments-chain, segments-kept, Recorded, held-recorded, recorded-held, taken-in, taken-none, taken-apart, taken-rest, taken-next, ends, last-nil, last-snoc, link-first, link-behind}
 
 module _ (w : List ℕ) (s : Store) (r : Rep w s) (y : List ℕ) (v : serialOk y ≡ true) (none : look s y ≡ []) (room : held s < s .limit) where
   abbrev a : ℕ
@@ -43,11 +43,6 @@ module _ (w : List ℕ) (s : Store) (r : Rep w s) (y : List ℕ) (v : serialOk y
 
   some : 0 < length (s .free)
   some = omega (arith, r .fair .cells .count, card-count s)
-
-  -- what is read
-  first-free : getD w 7 0 ≡ new
-  unfolding front header cardsAt
-  first-free = rep-front r 7 (lit< tt)
 
   next-free : cardWord w new 0 ≡ first later
   unfolding cardWord
@@ -122,28 +117,15 @@ module _ (w : List ℕ) (s : Store) (r : Rep w s) (y : List ℕ) (v : serialOk y
   unfolding placed cardCell segments
   linked-behind xs x e =
       let cs = map (freeCell cardWidth) later ∷ buckets in
-      let k : suc a < length cs = omega (arith, below, length-map (s .buckets) (map cardCell)) in
       let old : map cardCell (chainFor s y) ≡ map cardCell xs ++ (cardCell x ∷ []) = ap (map cardCell) e ∙ map-append cardCell xs (x ∷ []) in
-      let g : getD cs (suc a) [] ≡ map cardCell xs ++ (cardCell x ∷ []) ++ [] = List·getD-map (map cardCell) (s .buckets) a [] ∙ old ∙ sym (append-nil (map cardCell xs ++ (cardCell x ∷ []))) in
       let ch : map cardCell (chainFor s y ++ (newCard s y ∷ [])) ≡ map cardCell xs ++ (cardCell x ∷ []) ++ (cardCell (newCard s y) ∷ []) =
       map-append cardCell (chainFor s y) (newCard s y ∷ []) ∙ ap (λ (l : List Cell). l ++ (cardCell (newCard s y) ∷ [])) old in
-      let x-in = card-in filled (s .limit) (s .faultLimit) _ cs _ filled-whole (suc a) (map cardCell xs) (cardCell x) [] k g in
-      let here : 0 < many (x .at) (join cs) = omega (
-        arith,
-        total-one (λ (c : Cell). bit (eqb (x .at) (c .at))) cs (suc a),
-        ap (many (x .at)) g,
-        total-append (λ (c : Cell). bit (eqb (x .at) (c .at))) (map cardCell xs ++ (cardCell x ∷ [])) [],
-        total-append (λ (c : Cell). bit (eqb (x .at) (c .at))) (map cardCell xs) (cardCell x ∷ []),
-        bit-same (x .at) (x .at) refl,
-      ) in
-      let other : x .at ≡ new → ⊥ = λ d. let z : many (x .at) (join cs) ≡ 0 = ap (λ (i : ℕ). many i (join cs)) d ∙ new-none in omega arith in (
-        x-in .0,
+      let q = card-behind filled (s .limit) (s .faultLimit) _ cs _ filled-whole (suc a) (map cardCell xs) (cardCell x) (cardCell (newCard s y)) (new-in .0)
+      (omega (arith, below, length-map (s .buckets) (map cardCell))) (List·getD-map (map cardCell) (s .buckets) a [] ∙ old) new-none new-stands (chains-apart _ ch) in (
+        q .0,
         subst (λ (fr : List ℕ). Whole (set filled (cardAt (x .at) 0) new) (s .limit) (s .faultLimit) fr (cardChains (placed s y)) (faultChains s))
             (ap (fronts (held s)) (segments-kept s a (chainFor s y ++ (newCard s y ∷ [])) (ap (λ (l : List Card). first (cellsOf (l ++ (newCard s y ∷ [])))) e ∙ keeps xs ∙ ap (λ (l : List Card). first (cellsOf l)) (sym e))))
-            (subst (λ (cs : List (List Cell)). Whole (set filled (cardAt (x .at) 0) new) (s .limit) (s .faultLimit) (fronts (held s) (segments s)) cs (faultChains s)) (chains-placed _ ch)
-            (card-cut filled (s .limit) (s .faultLimit) _ cs _ filled-whole (suc a) (map cardCell xs) (cardCell x) [] k g (cardCell (newCard s y) ∷ [])
-            (λ i p. ⊎-elim (λ (d : i ≡ new). omega (arith, new-in)) (λ (d : i ≡ new → ⊥). absurd (omega (arith, bit-other i new d))) (eq? i new))
-            (omega (arith, bit-other (x .at) new other)) (new-stands, tt) (chains-apart _ ch))),
+            (subst (λ (cs : List (List Cell)). Whole (set filled (cardAt (x .at) 0) new) (s .limit) (s .faultLimit) (fronts (held s) (segments s)) cs (faultChains s)) (chains-placed _ ch) (q .1)),
       )
     where
       keeps : (l : List Card) → first (cellsOf (l ++ (x ∷ []) ++ (newCard s y ∷ []))) ≡ first (cellsOf (l ++ (x ∷ [])))
@@ -176,11 +158,12 @@ module _ (w : List ℕ) (s : Store) (r : Rep w s) (y : List ℕ) (v : serialOk y
       (every-append (Recorded u (s .limit)) (chainFor s y) (newCard s y ∷ []) (every-join (Recorded u (s .limit)) (s .buckets) old a) (tt, tt)))
 
   written : placeWords w a (last (cellsOf (chainFor s y))) y ≡ set (set filled (linkAt a (last (cellsOf (chainFor s y)))) new) 5 (held s + 1)
-  unfolding placeWords taken filled front header cardsAt
+  unfolding placeWords taken filled
   written =
-      let next = ap (λ (i : ℕ). cardWord w i 0) first-free ∙ next-free in
-      let n = rep-front r 5 (lit< tt) in
-      λ t. set (set (sets (set w 7 (next t)) (cardAt (first-free t) 0) (newWords y)) (linkAt a (last (cellsOf (chainFor s y)))) (first-free t)) 5 (n t + 1)
+      let i = free-at w s r in
+      let next = ap (λ (i : ℕ). cardWord w i 0) i ∙ next-free in
+      let n = held-at w s r in
+      λ t. set (set (sets (set w 7 (next t)) (cardAt (i t) 0) (newWords y)) (linkAt a (last (cellsOf (chainFor s y)))) (i t)) 5 (n t + 1)
 
   pub rep-placed : Rep (placeWords w a (last (cellsOf (chainFor s y))) y) (placed s y)
   unfolding placed front header directory cardsAt

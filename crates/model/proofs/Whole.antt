@@ -4,25 +4,25 @@
 -- `whole-rep`.
 use mathlib.Core.Path.{_≡_, refl, sym, ap, _∙_, subst}
 use mathlib.Core.Logic.{_⊎_, inl, inr}
-use mathlib.Core.List.{List, [], _∷_, _++_, map}
+use mathlib.Core.List.{List, [], _∷_, _++_, map, append-nil, append-assoc}
 use Prim.Native.Nat.{ℕ, zero, suc, _+_, _-_, _*_, _/_, _≤_, _<_}
 use native.Mathlib.Omega.{arith}
 use lib.Dec.{eqb, lit<}
-use lib.ListN.{length, getD, set, take, drop, replicate, length-set, length-map}
-use lib.Seq.{drop-cons, map-set-same, set-append-left, take-set-lt, take-set-le, getD-set-other, sets, length-sets}
+use lib.ListN.{length, getD, set, take, drop, replicate, length-set, length-map, length-append}
+use lib.Seq.{drop-cons, getD-at, set-at, map-set-same, set-append-left, take-set-lt, take-set-le, getD-set-other, sets, length-sets}
 use borrow.Author.Tests.{ne-eqb}
 use Rattle.rules.specs.Table.{top}
 use Rattle.model.specs.Lists.{join, total}
-use Rattle.model.specs.Model.{Store, Card, size, bucket, withChain, cellsOf}
+use Rattle.model.specs.Model.{Store, Card, cards, size, bucket, withChain, cellsOf}
 use Rattle.model.specs.Layout.{Cell, headOr, chained, cellAt, cardWidth, faultWidth, cardsAt, faultsAt, lengthFor, format, directoryAt, segmentsAt, segmentSize, first, last, faultCell, freeCell, front, segments, cardChains, faultChains}
 use Rattle.model.specs.Words.{cardAt, linkAt}
-use Rattle.model.proofs.Lists.{map-set, set-append-add, Every, every-at, at-every, every-map, map-every}
+use Rattle.model.proofs.Lists.{join-set, map-append, map-set, set-append-add, Every, every-at, at-every, every-map, map-every}
 use Rattle.model.proofs.Sums.{bit, bit-same, total-append, total-set, total-one}
 use Rattle.model.proofs.Each.{many, Each}
 use Rattle.model.proofs.Places.{cellAt-from, cellAt-below, cellAt-end}
-use Rattle.model.proofs.Chains.{Stand, stand-frame, many-chained}
+use Rattle.model.proofs.Chains.{Stands, Stand, stand-frame, many-chained}
 use Rattle.model.proofs.Part.{cellIn, Held}
-use Rattle.model.proofs.Writes.{Apart, sets-out, take-sets, held-set, held-write, held-cut, held-word, y-in}
+use Rattle.model.proofs.Writes.{Apart, sets-out, take-sets, held-set, held-write, held-cut, held-word, held-behind, y-in}
 use Rattle.model.proofs.Fair.{Fair}
 use Rattle.model.proofs.Rep.{Rep}
 use Rattle.model.proofs.Decode.{head-free}
@@ -172,6 +172,22 @@ module _ (w : List ℕ) (c f : ℕ) (fr : List ℕ) (cs fs : List (List Cell)) (
   fault-chain a ch h e q =
       faults-write w (set fs a ch) refl refl (λ m b. refl) e (held-set w (faultsAt c) faultWidth fs a ch h (λ j d. r .faults j) q)
 
+  -- a cell that stands in no chain and is written as the end of one is put behind the last cell y of chain a
+  module _ (a : ℕ) (xs : List Cell) (y x : Cell) (i : 1 ≤ x .at) where
+    pub card-behind : a < length cs → getD cs a [] ≡ xs ++ (y ∷ []) → many (x .at) (join cs) ≡ 0
+        → Stands (cellIn w cardsAt cardWidth) cardWidth (record { at = x .at; words = 0 ∷ x .words }) → Apart c (join (set cs a (xs ++ (y ∷ []) ++ (x ∷ []))))
+        → (1 ≤ y .at) × Whole (set w (cellAt cardsAt cardWidth (y .at) 0) (x .at)) c f fr (set cs a (xs ++ (y ∷ []) ++ (x ∷ []))) fs
+    card-behind h g m q e =
+        let k = y-in w cardsAt cardWidth c cs cards-fit (r .cardsApart) (r .cards) a xs y [] h (g ∙ sym (append-nil (xs ++ (y ∷ [])))) in
+        (k .0, card-set (y .at) 0 (x .at) _ (k .0) (k .1) (lit< tt) e (held-behind w cardsAt cardWidth c cs cards-fit (r .cardsApart) (r .cards) a xs y x h (lit< tt) g m i q))
+
+    pub fault-behind : a < length fs → getD fs a [] ≡ xs ++ (y ∷ []) → many (x .at) (join fs) ≡ 0
+        → Stands (cellIn w (faultsAt c) faultWidth) faultWidth (record { at = x .at; words = 0 ∷ x .words }) → Apart f (join (set fs a (xs ++ (y ∷ []) ++ (x ∷ []))))
+        → (1 ≤ y .at) × Whole (set w (cellAt (faultsAt c) faultWidth (y .at) 0) (x .at)) c f fr cs (set fs a (xs ++ (y ∷ []) ++ (x ∷ [])))
+    fault-behind h g m q e =
+        let k = y-in w (faultsAt c) faultWidth f fs faults-fit (r .faultsApart) (r .faults) a xs y [] h (g ∙ sym (append-nil (xs ++ (y ∷ [])))) in
+        (k .0, fault-set (y .at) 0 (x .at) _ (k .0) (k .1) (lit< tt) e (held-behind w (faultsAt c) faultWidth f fs faults-fit (r .faultsApart) (r .faults) a xs y x h (lit< tt) g m i q))
+
   -- a write to the cell y of chain a of the cards
   module _ (a : ℕ) (xs : List Cell) (y : Cell) (ys : List Cell) (h : a < length cs) (g : getD cs a [] ≡ xs ++ (y ∷ []) ++ ys) where
     pub card-in : (1 ≤ y .at) × (y .at ≤ c)
@@ -245,23 +261,45 @@ segments-kept s a ch e =
 
 -- the histories of cards, one by one
 
+abbrev pub historyOf : Card → List Cell
+historyOf card = map faultCell (card .faults)
+
 abbrev pub Recorded : List ℕ → ℕ → Card → Type 0
-Recorded w c card = Stand (cellIn w (faultsAt c) faultWidth) faultWidth (chained 0 (map faultCell (card .faults)))
+Recorded w c card = Stand (cellIn w (faultsAt c) faultWidth) faultWidth (chained 0 (historyOf card))
 
 module _ (w : List ℕ) (c : ℕ) (free : List Cell) (cs : List Card) where
-  pub held-recorded : Held w (faultsAt c) faultWidth (free ∷ map (λ card. map faultCell (card .faults)) cs) → Every (Recorded w c) cs
+  pub held-recorded : Held w (faultsAt c) faultWidth (free ∷ map historyOf cs) → Every (Recorded w c) cs
   held-recorded h =
       let P : List Cell → Type 0 = λ ch. Stand (cellIn w (faultsAt c) faultWidth) faultWidth (chained 0 ch) in
-      let g : Card → List Cell = λ card. map faultCell (card .faults) in
-      every-map P g cs (at-every P (map g cs) [] (λ j. h (suc j)))
+      every-map P historyOf cs (at-every P (map historyOf cs) [] (λ j. h (suc j)))
 
   pub recorded-held : Stand (cellIn w (faultsAt c) faultWidth) faultWidth (chained 0 free) → Every (Recorded w c) cs
-      → Held w (faultsAt c) faultWidth (free ∷ map (λ card. map faultCell (card .faults)) cs)
+      → Held w (faultsAt c) faultWidth (free ∷ map historyOf cs)
   recorded-held z e zero = z
   recorded-held z e (suc j) =
       let P : List Cell → Type 0 = λ ch. Stand (cellIn w (faultsAt c) faultWidth) faultWidth (chained 0 ch) in
-      let g : Card → List Cell = λ card. map faultCell (card .faults) in
-      every-at P (map g cs) [] tt (map-every P g cs e) j
+      every-at P (map historyOf cs) [] tt (map-every P historyOf cs e) j
+
+-- the cards of a store with one chain replaced, parted at a card of that chain; and the histories parted there
+pub cards-parted : (s : Store) (a : ℕ) (xs : List Card) (x : Card) (ys : List Card) → a < length (s .buckets)
+    → cards (withChain s a (xs ++ (x ∷ ys))) ≡ (join (take a (s .buckets)) ++ xs) ++ (x ∷ (ys ++ join (drop (suc a) (s .buckets))))
+cards-parted s a xs x ys h = join-set (s .buckets) a (xs ++ (x ∷ ys)) h ∙ simp append-assoc
+
+module _ (cs left : List Card) (x : Card) (right : List Card) (e : cs ≡ left ++ (x ∷ right)) where
+  pub history-get : getD (map historyOf cs) (length left) [] ≡ historyOf x
+  history-get =
+      ap (λ (l : List Card). getD (map historyOf l) (length left) []) e
+      ∙ ap (λ (l : List (List Cell)). getD l (length left) []) (map-append historyOf left (x ∷ right))
+      ∙ getD-at (map historyOf left) (historyOf x) (map historyOf right) [] (length left) (length-map left historyOf)
+
+  pub history-set : (ch : List Cell) → set (map historyOf cs) (length left) ch ≡ map historyOf left ++ (ch ∷ map historyOf right)
+  history-set ch =
+      ap (λ (l : List Card). set (map historyOf l) (length left) ch) e
+      ∙ ap (λ (l : List (List Cell)). set l (length left) ch) (map-append historyOf left (x ∷ right))
+      ∙ set-at (map historyOf left) (historyOf x) (map historyOf right) ch (length left) (length-map left historyOf)
+
+  pub history-below : length left < length (map historyOf cs)
+  history-below = omega (arith, length-map cs historyOf, ap length e, length-append left (x ∷ right))
 
 -- the first cell of a free chain is taken out of it: it stands in no other chain, and its next word names the next free cell
 module _ (w : List ℕ) (base width n : ℕ) (free : List ℕ) (others : List (List Cell)) (z : 0 < width) (some : 0 < length free)
