@@ -9,3 +9,5 @@ pub mod Writes
 pub mod Lend
 -- The store as facts
 pub mod Fair
+-- What the definitions compute
+pub mod Computed
