@@ -1,0 +1,1 @@
+// A line taken apart into its fields.
