@@ -1,2 +1,4 @@
 -- Laws that the functions' proofs cite, one theme a file
 pub mod Cursor
+pub mod Numbers
+pub mod Padded

@@ -1,2 +1,3 @@
--- What the job's functions say beyond the model's definitions: where a piece of text ends.
+-- What the job's functions say beyond the model's definitions: text in pieces, and what a line tells.
 pub mod Pieces
+pub mod Told
