@@ -2,7 +2,7 @@
 -- `lines-walk` with `lines-done` says that the cursor meets exactly the lines; `fields-walk` and `fields-last` say it of fields.
 -- Assumes nothing.
 use Prim.Native.Nat.{ℕ, suc, _+_, _-_, _≤_, _<_}
-use mathlib.Core.Path.{_≡_, refl, ap, _∙_}
+use mathlib.Core.Path.{_≡_, refl, sym, ap, _∙_}
 use mathlib.Core.List.{List, [], _∷_}
 use mathlib.Core.Logic.{⊎-elim}
 use native.Mathlib.Nat.{add-zero}
@@ -10,7 +10,7 @@ use native.Mathlib.Numerals.{add-one}
 use native.Mathlib.Omega.{arith}
 use lib.Dec.{eqb}
 use lib.ListN.{length, take, drop, getD, length-drop, drop-of-length-le}
-use lib.Seq.{drop-cons, drop-drop}
+use lib.Seq.{drop-cons, drop-drop, take-all}
 use borrow.Author.Tests.{eq-eqb, ne-eqb}
 use Rattle.rules.proofs.Tests.{by-cases, lt?}
 use Rattle.model.specs.Job.{onto, fields, dropEmptyLast, linesOf}
@@ -75,20 +75,32 @@ past sep t i =
     let e : i + suc n ≡ i + n + 1 = omega arith in
     drop-drop (suc n) i t ∙ ap (λ (k : ℕ). drop k t) e
 
-module _ (sep : ℕ) (t : List ℕ) (i : ℕ) where
+-- from a place to the end
+pub span-rest : (i : ℕ) (t : List ℕ) → span i (length t) t ≡ drop i t
+span-rest i t = take-all (length t - i) (drop i t) (omega (arith, length-drop i t))
+
+-- from the start to a place
+pub span-front : (i : ℕ) (t : List ℕ) → span 0 i t ≡ take i t
+span-front i t = let e : i - 0 ≡ i = omega arith in rw e
+
+-- the cursor at i, and the end e of the piece there
+module _ (sep : ℕ) (t : List ℕ) (i e : ℕ) (is : e ≡ pieceEnd sep t i) where
   -- a piece that a separator ends
-  pub fields-walk : pieceEnd sep t i < length t → fields sep (drop i t) ≡ span i (pieceEnd sep t i) t ∷ fields sep (drop (pieceEnd sep t i + 1) t)
+  pub fields-walk : e < length t → fields sep (drop i t) ≡ span i e t ∷ fields sep (drop (e + 1) t)
   unfolding pieceEnd
-  fields-walk h = rw (piece sep t i, ← (past sep t i)) (fields-more sep (drop i t) (omega (arith, length-drop i t)))
+  fields-walk h = rw (is, piece sep t i, ← (past sep t i)) (fields-more sep (drop i t) (omega (arith, length-drop i t)))
 
   -- the last piece
-  pub fields-last : length t ≤ pieceEnd sep t i → fields sep (drop i t) ≡ span i (pieceEnd sep t i) t ∷ []
+  pub fields-last : length t ≤ e → fields sep (drop i t) ≡ drop i t ∷ []
   unfolding pieceEnd
-  fields-last h = rw (piece sep t i) (fields-one sep (drop i t) (omega (arith, length-drop i t)))
+  fields-last h =
+      let u = upTo sep (drop i t) in
+      let w : length (drop i t) ≤ length u = omega (arith, length-drop i t) in
+      fields-one sep (drop i t) w ∙ ap (λ (l : List ℕ). l ∷ []) (sym (upTo-take sep (drop i t)) ∙ take-all (length u) (drop i t) w)
 
 -- the lines of a text: its first piece is a line where the text is not empty, and the lines of what stands behind the LF follow
 
-fields-some : (sep : ℕ) (t : List ℕ) → 0 < length (fields sep t)
+pub fields-some : (sep : ℕ) (t : List ℕ) → 0 < length (fields sep t)
 unfolding fields onto
 fields-some sep [] = omega arith
 fields-some sep (b ∷ bs) = by-cases (eqb b sep) (λ e. rw e (omega arith)) (λ e. rw e (go (fields sep bs)))
@@ -116,8 +128,8 @@ lines-first t h =
     ⊎-elim (λ (k : length l < length t). rw (fields-more 10 t k) (not-last l (fields 10 r) (fields-some 10 r)))
     (λ (k : length t ≤ length l). rw (fields-one 10 t k, drop-of-length-le t {i = suc (length l)} (omega arith)) (last-kept l (omega arith))) (lt? (length l) (length t))
 
-pub lines-walk : (t : List ℕ) (i : ℕ) → i < length t → linesOf (drop i t) ≡ span i (pieceEnd 10 t i) t ∷ linesOf (drop (pieceEnd 10 t i + 1) t)
-lines-walk t i h = rw (piece 10 t i, ← (past 10 t i)) (lines-first (drop i t) (omega (arith, length-drop i t)))
+pub lines-walk : (t : List ℕ) (i e : ℕ) → e ≡ pieceEnd 10 t i → i < length t → linesOf (drop i t) ≡ span i e t ∷ linesOf (drop (e + 1) t)
+lines-walk t i e is h = rw (is, piece 10 t i, ← (past 10 t i)) (lines-first (drop i t) (omega (arith, length-drop i t)))
 
 pub lines-done : (t : List ℕ) (i : ℕ) → length t ≤ i → linesOf (drop i t) ≡ []
 unfolding linesOf fields dropEmptyLast

@@ -2,3 +2,5 @@
 pub mod Cursor
 pub mod Numbers
 pub mod Padded
+pub mod Forms
+pub mod Steps

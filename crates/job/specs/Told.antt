@@ -28,10 +28,14 @@ codeIn (show f) = 0
 codeIn (withdraw f) = 0
 codeIn (file f day code) = code
 
+-- what the code holds: a kind, a serial field as sixteen bytes and its length, and two numbers
+pub record Holds (kind : ℕ) (serial : List ℕ) (day code : ℕ) (p : Parsed) : Type 0 where
+  pub kind-is : p .kind ≡ kind
+  pub serial-is : p .serial ≡ padded serial
+  pub len-is : p .len ≡ length serial
+  pub day-is : p .day ≡ day
+  pub code-is : p .code ≡ code
+
 -- what the code holds of a line is what the line tells
-pub record Told (l : Line) (p : Parsed) : Type 0 where
-  pub kind-is : p .kind ≡ kind l
-  pub serial-is : p .serial ≡ padded (serialIn l)
-  pub len-is : p .len ≡ length (serialIn l)
-  pub day-is : p .day ≡ dayIn l
-  pub code-is : p .code ≡ codeIn l
+abbrev pub Told : Line → Parsed → Type 0
+Told l p = Holds (kind l) (serialIn l) (dayIn l) (codeIn l) p

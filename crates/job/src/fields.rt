@@ -4,8 +4,8 @@ ghost use mathlib.Core.Bool.{true};
 ghost use Prim.Native.Nat.{_+_, _-_, _*_, _≤_, _<_, min};
 ghost use mathlib.Core.List.{[], _∷_};
 ghost use Rattle.model.specs.Lists.{between, all};
-ghost use Rattle.model.specs.Job.{bad, two, fromFields, fields, isNumber, valueFrom, padded, lineOf};
-ghost use Rattle.job.specs.Told.{Told};
+ghost use Rattle.model.specs.Job.{bad, two, four, fromFields, fields, isNumber, valueFrom, padded, lineOf};
+ghost use Rattle.job.specs.Told.{Holds, Told};
 use super::lines::field_end;
 
 // What a line tells: its kind (0 not well formed, 1 enter, 2 withdraw, 3 file, 4 show), its serial field as
@@ -111,4 +111,84 @@ fn bad_line() -> Parsed
         day: 0,
         code: 0,
     }
+}
+
+// A line of this kind, with its serial field and the numbers of a filing.
+fn filled(kind: u32, serial: &[u8], day: u32, code: u32) -> Parsed
+    ensures { λ r. ⌜ Holds kind (now (serial .entry)) day code r ⌝ }
+{
+    let bytes = sixteen(serial);
+    Parsed {
+        kind,
+        serial: bytes,
+        len: serial.len(),
+        day,
+        code,
+    }
+}
+
+// A line of two fields: E, S or W and a serial.
+fn serial_line(op: u8, serial: &[u8]) -> Parsed
+    ensures { λ r. ⌜ Told (two (op ∷ []) (now (serial .entry))) r ⌝ }
+{
+    match op {
+        b'E' => filled(1, serial, 0, 0),
+        b'W' => filled(2, serial, 0, 0),
+        b'S' => filled(4, serial, 0, 0),
+        _ => bad_line(),
+    }
+}
+
+// A line of four fields: F, a serial, a day and a code.
+fn fault_line(op: u8, serial: &[u8], day: &[u8], code: &[u8]) -> Parsed
+    ensures { λ r. ⌜ Told (four (op ∷ []) (now (serial .entry)) (now (day .entry)) (now (code .entry))) r ⌝ }
+{
+    if op != b'F' {
+        return bad_line();
+    }
+    if !is_number(day) {
+        return bad_line();
+    }
+    if !is_number(code) {
+        return bad_line();
+    }
+    filled(3, serial, number(day), number(code))
+}
+
+// A line whose serial is not its last field, with what stands behind the serial: two fields more, or it is bad.
+fn longer_line(op: u8, serial: &[u8], rest: &[u8]) -> Parsed
+    ensures { λ r. ⌜ Told (fromFields ((op ∷ []) ∷ now (serial .entry) ∷ fields 32 (now (rest .entry)))) r ⌝ }
+{
+    let gap = field_end(rest, 0);
+    if rest.len() <= gap {
+        return bad_line();
+    }
+    let next = gap + 1;
+    let end = field_end(rest, next);
+    if end < rest.len() {
+        return bad_line();
+    }
+    fault_line(op, serial, &rest[..gap], &rest[next..])
+}
+
+// What a line without its LF tells.
+pub fn parse(line: &[u8]) -> Parsed
+    ensures { λ r. ⌜ Told (lineOf (now (line .entry))) r ⌝ }
+{
+    if LONGEST < line.len() {
+        return bad_line();
+    }
+    let first = field_end(line, 0);
+    if line.len() <= first {
+        return bad_line();
+    }
+    if first != 1 {
+        return bad_line();
+    }
+    let end = field_end(line, 2);
+    if line.len() <= end {
+        return serial_line(line[0], &line[2..]);
+    }
+    let next = end + 1;
+    longer_line(line[0], &line[2..end], &line[next..])
 }
