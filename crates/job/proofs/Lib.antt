@@ -4,3 +4,5 @@ pub mod Numbers
 pub mod Padded
 pub mod Forms
 pub mod Steps
+pub mod Decimals
+pub mod Putting

@@ -1,3 +1,4 @@
--- What the job's functions say beyond the model's definitions: text in pieces, and what a line tells.
+-- What the job's functions say beyond the model's definitions: text in pieces, what a line tells, the text written.
 pub mod Pieces
 pub mod Told
+pub mod Text
