@@ -6,3 +6,4 @@ pub mod Forms
 pub mod Steps
 pub mod Decimals
 pub mod Putting
+pub mod Answers

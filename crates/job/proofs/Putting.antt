@@ -5,8 +5,8 @@ use mathlib.Core.Path.{_≡_, refl, sym, ap, _∙_}
 use mathlib.Core.List.{List, [], _∷_, _++_}
 use native.Mathlib.Nat.{add-zero}
 use native.Mathlib.Omega.{arith}
-use lib.ListN.{length, set, length-append}
-use lib.Seq.{sets, length-sets, set-comm}
+use lib.ListN.{length, set, drop, length-append, length-drop}
+use lib.Seq.{sets, length-sets, sets-eq, set-comm, take-append-seam, drop-append-add, drop-drop}
 use Rattle.job.specs.Text.{Puts}
 
 -- a run of stores, taken apart
@@ -37,6 +37,13 @@ puts-then {out} {mid} {left} {at} {here} {end} a b p q =
 pub puts-length : {out left : List ℕ} {at end : ℕ} (text : List ℕ) → Puts out at text end left → length left ≡ length out
 puts-length {out} {left} {at} text p = ap length (p .out-is) ∙ length-sets out at text
 
+-- room for both is room for the first, and, once it is written, for the second
+pub room-first : (at : ℕ) {n : ℕ} (a b : List ℕ) → at + length (a ++ b) ≤ n → at + length a ≤ n
+room-first at a b h = omega (arith, length-append a b)
+
+pub room-then : {out mid : List ℕ} {at here : ℕ} (a b : List ℕ) → Puts out at a here mid → at + length (a ++ b) ≤ length out → here + length b ≤ length mid
+room-then a b p h = omega (arith, length-append a b, puts-length a p)
+
 -- the text that is left to write at `end` makes, of what is written so far, the whole text at `at`
 pub record Left (out : List ℕ) (at : ℕ) (whole : List ℕ) (now : List ℕ) (end : ℕ) (text : List ℕ) : Type 0 where
   pub same : sets now end text ≡ sets out at whole
@@ -50,5 +57,18 @@ pub left-less : {out whole now new : List ℕ} {at end next : ℕ} (a b : List �
 left-less {out} {whole} {now} {new} {at} {end} {next} a b l p =
     record { same = rw (p .out-is, p .end-is, ← (sets-append a b now end)) (l .same); ends = omega (arith, length-append a b); long = puts-length a p ∙ l .long }
 
+pub left-room : {out whole now : List ℕ} {at end : ℕ} (text : List ℕ) → Left out at whole now end text → at + length whole ≤ length out → end + length text ≤ length now
+left-room text l h = omega arith
+
 pub left-none : {out whole now : List ℕ} {at end : ℕ} → Left out at whole now end [] → Puts out at whole end now
 left-none {out} {whole} {now} {at} {end} l = record { out-is = l .same; end-is = omega arith }
+
+-- the job's output: the text so far and then what was there; an answer behind it
+pub put-behind : (out text answer : List ℕ) → length text + length answer ≤ length out
+    → sets (text ++ drop (length text) out) (length text) answer ≡ (text ++ answer) ++ drop (length (text ++ answer)) out
+put-behind out text answer h =
+    let rest = drop (length text) out in
+    let n = length answer in
+    let fits : length text + n ≤ length (text ++ rest) = omega (arith, length-append text rest, length-drop (length text) out) in
+    sets-eq answer (text ++ rest) (length text) fits
+    ∙ rw (take-append-seam text rest, drop-append-add text rest n, drop-drop n (length text) out, length-append text answer)

@@ -24,7 +24,11 @@ marked mark n = mark ∷ decimal n
 unfoldable pub pairOf : ℕ → ℕ → List ℕ
 pairOf day code = marked 32 day ++ marked 58 code
 
--- the pairs of `count` faults, as long as they are
+-- how long a fault's text is, and the texts of `count` faults
+pub record PairLong (day code r : ℕ) : Type 0 where
+  pub is : r ≡ length (pairOf day code)
+  pub most : r ≤ 22
+
 pub record PairsLong (count : ℕ) (room : List ℕ) (r : ℕ) : Type 0 where
   pub is : r ≡ length (pairText count room)
   pub most : r ≤ 22 * count
