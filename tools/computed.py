@@ -75,7 +75,6 @@ def main():
                "-- Written by tools/computed.py; each claim holds by computation alone. Assumes nothing.\n"
                "use Prim.Native.Nat.{ℕ}\n"
                "use mathlib.Core.Path.{_≡_, refl}\n"
-               "use mathlib.Core.Bool.{true}\n"
                "use mathlib.Core.List.{List, [], _∷_, _++_, map}\n"
                "use lib.ListN.{set, replicate}\n"
                + "".join("use %s as %s\n" % (m, short) for m, short, _ in modules))

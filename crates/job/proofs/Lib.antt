@@ -7,3 +7,4 @@ pub mod Steps
 pub mod Decimals
 pub mod Putting
 pub mod Answers
+pub mod Counting

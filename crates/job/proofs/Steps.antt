@@ -1,15 +1,14 @@
 -- What a line asks of the store, by the kind that `parse` tells: each step is the model's, at the serial, day and code told.
 -- For the job's loop. Assumes nothing.
-use Prim.Native.Nat.{ℕ, _≤_}
+use Prim.Native.Nat.{_≤_}
 use mathlib.Core.Path.{_≡_, refl, sym, ap, _∙_}
 use mathlib.Core.List.{[]}
 use mathlib.Core.Bool.{cond}
 use native.Mathlib.Omega.{arith}
 use lib.Dec.{eqb}
-use lib.ListN.{length}
 use Rattle.model.specs.Model.{Store}
 use Rattle.model.specs.Calls.{Answer, refused, stays, enterStep, fileStep, showStep, withdrawStep}
-use Rattle.model.specs.Job.{Line, bad, enter, show, withdraw, file, kind, padded, enough, stepOf, listed}
+use Rattle.model.specs.Job.{Line, bad, enter, show, withdraw, file, kind, enough, stepOf, listed}
 use Rattle.job.specs.Told.{serialIn, dayIn, codeIn, Told}
 use Rattle.job.specs.declared.fields.Parsed.{Parsed}
 

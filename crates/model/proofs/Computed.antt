@@ -2,7 +2,6 @@
 -- Written by tools/computed.py; each claim holds by computation alone. Assumes nothing.
 use Prim.Native.Nat.{ℕ}
 use mathlib.Core.Path.{_≡_, refl}
-use mathlib.Core.Bool.{true}
 use mathlib.Core.List.{List, [], _∷_, _++_, map}
 use lib.ListN.{set, replicate}
 use Rattle.rules.specs.Code as Code

@@ -1,6 +1,6 @@
 -- `job::fields::fault_line` meets its contract: its tests are those of the definition, and both numbers are read only where they passed. Assumes nothing.
 use mathlib.Core.Path.{_≡_, sym, _∙_}
-use mathlib.Core.Bool.{true, false}
+use mathlib.Core.Bool.{true}
 use borrow.Author.Tests.{not-true, not-false}
 use denote.Ref.{now}
 use Rattle.model.specs.Job.{bad, file, kind, isNumber, valueFrom}

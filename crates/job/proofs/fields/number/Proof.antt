@@ -1,12 +1,11 @@
 -- `job::fields::number` meets its contract. The loop's invariant: the value so far, with the digits that are left,
 -- makes the value of the whole, and i digits make a value below 10 ^ i. Assumes nothing.
-use mathlib.Core.Path.{_≡_, refl, sym, ap, _∙_}
-use mathlib.Core.Bool.{true}
-use Prim.Native.Nat.{_-_, _^_, _≤_, _<_}
+use mathlib.Core.Path.{_≡_, refl, sym, _∙_}
+use Prim.Native.Nat.{_-_, _^_, _<_}
 use native.Mathlib.Omega.{arith}
 use denote.Ref.{now}
 use lib.ListN.{length, drop}
-use Rattle.model.specs.Job.{isNumber, valueFrom}
+use Rattle.model.specs.Job.{valueFrom}
 use Rattle.job.proofs.Numbers.{number-long, number-digit, value-more, value-end, value-below, value-grows}
 use Rattle.job.proofs.fields.number.Statement.{statement}
 use Rattle.job.proofs.fields.number.Tie as tie

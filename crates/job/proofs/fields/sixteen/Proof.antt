@@ -1,5 +1,5 @@
 -- `job::fields::sixteen` meets its contract. The loop's invariant: the bytes so far are the field's, the rest are still zero. Assumes nothing.
-use mathlib.Core.Path.{_≡_, refl, sym, ap, _∙_}
+use mathlib.Core.Path.{_≡_, refl, _∙_}
 use mathlib.Core.List.{_++_}
 use Prim.Native.Nat.{_-_, _≤_}
 use native.Mathlib.Omega.{arith}

@@ -1,7 +1,6 @@
 -- `job::text::pairs_len` meets its contract. The loop's invariant: the sum so far with the length of the pairs from word `i` on
 -- is the length of all, and each pair counts at most 22. Assumes nothing.
 use mathlib.Core.Path.{_≡_, refl, ap, _∙_}
-use mathlib.Core.List.{_++_}
 use Prim.Native.Nat.{_+_, _-_, _*_, _≤_}
 use native.Mathlib.Omega.{arith}
 use denote.Ref.{now}

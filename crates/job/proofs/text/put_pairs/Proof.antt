@@ -5,10 +5,10 @@ use mathlib.Core.List.{_++_}
 use Prim.Native.Nat.{_+_, _-_, _*_, _≤_}
 use native.Mathlib.Omega.{arith}
 use denote.Ref.{now}
-use lib.ListN.{drop, getD}
+use lib.ListN.{drop}
 use Rattle.model.specs.Job.{pairText}
 use Rattle.job.specs.Text.{pairOf}
-use Rattle.job.proofs.Putting.{Left, left-all, left-less, left-room, left-none, room-first, puts-length}
+use Rattle.job.proofs.Putting.{Left, left-all, left-less, left-room, left-none, room-first}
 use Rattle.job.proofs.Answers.{pairs-turn, pairs-done}
 use Rattle.job.proofs.text.put_pairs.Statement.{statement}
 use Rattle.job.proofs.text.put_pairs.Tie as tie
