@@ -1,12 +1,13 @@
 -- The text of an answer, pair by pair and as a whole: `pairs-turn` is a turn of the loop over the pairs, and `answer-text` says that the
 -- text from plain numbers is the model's. Assumes nothing.
 use Prim.Native.Nat.{ℕ, suc, _+_, _-_, _≤_, _<_}
-use mathlib.Core.Path.{_≡_, sym, ap}
+use mathlib.Core.Path.{_≡_, refl, sym, ap}
 use mathlib.Core.List.{List, [], _∷_, _++_, append-assoc}
 use native.Mathlib.Omega.{arith}
 use lib.ListN.{length, drop, getD, length-append}
 use lib.Seq.{drop-cons}
-use Rattle.model.specs.Calls.{Step}
+use Rattle.model.specs.Model.{Fault}
+use Rattle.model.specs.Calls.{Step, pairs}
 use Rattle.model.specs.Job.{Line, decimal, pairText, listed, answerText}
 use Rattle.job.specs.Text.{marked, pairOf, numbersOf, answerOf}
 
@@ -42,6 +43,12 @@ pairs-turn count k room i h r =
 pub pairs-done : (count k : ℕ) (room : List ℕ) → count ≤ k → pairText (count - k) room ≡ []
 unfolding pairText
 pairs-done count k room h = let e : count - k ≡ 0 = omega arith in rw e
+
+-- the room behind the pairs of a history is not read
+pub pairs-only : (h : List Fault) (rest : List ℕ) → pairText (length h) (pairs h ++ rest) ≡ pairText (length h) (pairs h)
+unfolding pairText
+pairs-only [] rest = refl
+pairs-only (f ∷ fs) rest = rw (pairs-only fs rest)
 
 -- the answer of a line is the text of its numbers
 pub answer-text : (l : Line) (r : Step)

@@ -27,9 +27,9 @@ pub fn decimal_len(n: u32) -> usize
     ensures { λ r. ⌜ Digits n r ⌝ }
 {
     let mut k: usize = 1;
-    let mut m = n;
-    while 10 <= m {
-        m = m / 10;
+    let mut rest = n;
+    while 10 <= rest {
+        rest = rest / 10;
         k += 1;
     }
     k

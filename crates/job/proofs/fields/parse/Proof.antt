@@ -14,19 +14,19 @@ use Rattle.job.proofs.fields.parse.Statement.{statement}
 use Rattle.job.proofs.fields.parse.Tie as tie
 
 returns : tie.Need-returns
-returns c = as-line _ bad _ (line-long (now (c .before .before .before .args .line)) (c .before .if1 .taken)) (c .bad-line .ensures)
+returns c = as-line _ bad _ (line-long (now (c .before .before .before .args .line)) (omega arith)) (c .bad-line .ensures)
 
 returns-2 : tie.Need-returns-2
 returns-2 c =
     let p = c .before .before in
     let l = now (p .before .before .before .args .line) in
-    as-line _ bad _ (line-short l (p .before .if1 .left) ∙ line-one l _ (p .field-end .ensures) (c .before .if2 .taken)) (c .bad-line2 .ensures)
+    as-line _ bad _ (line-short l (omega arith) ∙ line-one l _ (p .field-end .ensures) (c .before .if2 .taken)) (c .bad-line2 .ensures)
 
 returns-3 : tie.Need-returns-3
 returns-3 c =
     let p = c .before .before .before in
     let l = now (p .before .before .before .args .line) in
-    as-line _ bad _ (line-short l (p .before .if1 .left) ∙ line-first l _ (p .field-end .ensures) (c .before .before .if2 .left) (c .before .if3 .taken))
+    as-line _ bad _ (line-short l (omega arith) ∙ line-first l _ (p .field-end .ensures) (c .before .before .if2 .left) (c .before .if3 .taken))
     (c .bad-line3 .ensures)
 
 returns-4 : tie.Need-returns-4
@@ -35,7 +35,7 @@ returns-4 c =
     let p = q .before .before .before in
     let l = now (p .before .before .before .args .line) in
     as-line _ (two (getD l 0 0 ∷ []) (drop 2 l)) _
-    (line-short l (p .before .if1 .left)
+    (line-short l (omega arith)
     ∙ line-two l _ (p .field-end .ensures) (q .before .before .if2 .left) (q .before .if3 .left) _ (q .field-end2 .ensures) (c .before .before .before .if4 .taken))
     (rw (← (span-rest 2 l)) (c .serial-line .ensures))
 
@@ -50,7 +50,7 @@ returns-5 c =
     let l = now (p .before .before .before .args .line) in
     let end = q .field-end2 .result in
     as-line _ (fromFields ((getD l 0 0 ∷ []) ∷ span 2 end l ∷ fields 32 (drop (end + 1) l))) _
-    (line-short l (p .before .if1 .left)
+    (line-short l (omega arith)
     ∙ line-more l _ (p .field-end .ensures) (q .before .before .if2 .left) (q .before .if3 .left) _ (q .field-end2 .ensures) (c .before .before .before .before .if4 .left))
     (rw (← (span-rest (end + 1) l)) (c .longer-line .ensures))
 

@@ -10,21 +10,21 @@ use Rattle.job.proofs.text.decimal_len.Statement.{statement}
 use Rattle.job.proofs.text.decimal_len.Tie as tie
 
 abbrev Inv-loop : tie.InvT-loop
-Inv-loop n k₀ m₀ k m = (m ≤ n) × (k + length (decimal m) ≡ 1 + length (decimal n))
+Inv-loop n k₀ rest₀ k rest = (rest ≤ n) × (k + length (decimal rest) ≡ 1 + length (decimal n))
 
 abbrev μ-loop : tie.MeasureT-loop
-μ-loop n k₀ m₀ k m = m
+μ-loop n k₀ rest₀ k rest = rest
 
 add-k : tie.Need-add-k Inv-loop μ-loop
 add-k c = omega (arith, decimal-most (c .before .before .args .n) (omega arith))
 
 loop-again : tie.Need-loop-again Inv-loop μ-loop
-loop-again c = (omega arith, omega (arith, decimal-less (c .before .loop .m) (omega arith) (omega arith)))
+loop-again c = (omega arith, omega (arith, decimal-less (c .before .loop .rest) (omega arith) (omega arith)))
 
 returns : tie.Need-returns Inv-loop μ-loop
 returns c =
     let n = c .before .before .args .n in
-    let one = decimal-one (c .before .loop .m) (omega arith) in
+    let one = decimal-one (c .before .loop .rest) (omega arith) in
     record { is = omega arith; most = omega (arith, decimal-most n (omega arith)) }
 
 -- in order: the loop's start, `k + 1`, the measure, a turn, the return
