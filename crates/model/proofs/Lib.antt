@@ -38,3 +38,5 @@ pub mod Demands
 pub mod Whole
 pub mod Place
 pub mod File
+-- What the definitions compute
+pub mod Computed
