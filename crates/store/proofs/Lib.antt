@@ -13,6 +13,8 @@ pub mod PartLaws
 pub mod PartMeans
 pub mod FrontMeans
 pub mod PartRuns
+-- What a call will scan
+pub mod ScanLaws
 pub mod CellMeans
 pub mod HistoryMeans
 pub mod PartsSound
