@@ -5,3 +5,5 @@ pub mod CellLaws
 -- Laws of marks and of walks, that know nothing of cards
 pub mod MarkLaws
 pub mod WalkLaws
+pub mod AlongLaws
+pub mod SearchLaws

@@ -1,6 +1,7 @@
 // The store of cards: Open, the four calls, and the checker of soundness.
 mod cells;
 mod marks;
+mod search;
 mod serial;
 mod walks;
 
