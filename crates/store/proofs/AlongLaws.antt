@@ -1,13 +1,12 @@
 -- A loop that goes along a chain that ends (`Ends`). What it keeps is one record, `Along`: the cells that are left lead on from here, and what
 -- they give is what the whole chain gives. Each turn is `along-next`, or `along-stop` where the loop returns; `along-end` is the end.
-use mathlib.Core.Path.{_≡_, refl, sym, ap, subst, _∙_}
+use mathlib.Core.Path.{_≡_, refl, sym, _∙_}
 use mathlib.Core.Bool.{true}
 use mathlib.Core.List.{List, [], _∷_}
 use Prim.Native.Nat.{ℕ, zero, suc, _+_, _≤_, _<_}
 use native.Mathlib.Omega.{arith}
 use lib.Dec.{eqb}
 use lib.ListN.{length}
-use borrow.Author.Tests.{eqb-true}
 use Rattle.rules.proofs.Tests.{by-cases, both}
 use Rattle.model.specs.Lists.{between, all}
 use Rattle.model.specs.Layout.{follow}

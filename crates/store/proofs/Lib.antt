@@ -6,4 +6,7 @@ pub mod CellLaws
 pub mod MarkLaws
 pub mod WalkLaws
 pub mod AlongLaws
+-- Laws of the search, of the words of a store as they are read, and of what is found there
 pub mod SearchLaws
+pub mod StoredLaws
+pub mod FindLaws

@@ -1,17 +1,15 @@
 -- The search by its steps: a key compared word by word, and a chain compared card by card.
-use mathlib.Core.Path.{_≡_, refl, sym, _∙_}
+use mathlib.Core.Path.{_≡_, refl, sym}
 use mathlib.Core.Bool.{Bool, true, false}
 use mathlib.Core.List.{List, [], _∷_}
 use Prim.Native.Nat.{ℕ, _+_, _-_, _≤_, _<_}
-use native.Mathlib.Omega.{arith}
 use borrow.Author.Tests.{eq-eqb, ne-eqb}
 use lib.Dec.{eqb}
 use lib.ListN.{getD}
 use Rattle.model.specs.Lists.{all, from}
-use Rattle.model.specs.Layout.{cardWord, follow}
+use Rattle.model.specs.Layout.{cardWord}
 use Rattle.model.specs.Meaning.{nextCard}
 use Rattle.store.specs.Search.{Ends, hasKey, searchIn, searched}
-use Rattle.store.specs.declared.search.Found.{Found}
 use Rattle.store.proofs.Rows.{and-rest, and-fails, run-more, run-fails, run-ends}
 use Rattle.store.proofs.AlongLaws.{Along, along-start}
 

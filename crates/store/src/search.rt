@@ -2,10 +2,9 @@
 ghost use mathlib.Core.Path.{_≡_};
 ghost use mathlib.Core.Bool.{true};
 ghost use Prim.Native.Nat.{_≤_, _<_};
-ghost use lib.Dec.{eqb};
 ghost use lib.ListN.{take};
 ghost use Rattle.model.specs.Serial.{validSerial};
-ghost use Rattle.model.specs.Layout.{cardWidth, cardWord, decode, sound};
+ghost use Rattle.model.specs.Layout.{decode, sound};
 ghost use Rattle.model.specs.Meaning.{nextCard};
 ghost use Rattle.store.specs.Cells.{Sized, Read};
 ghost use Rattle.store.specs.Search.{Ends, hasKey, searched, Finds};
@@ -75,5 +74,41 @@ pub fn search(w: &[u32], c: u32, f: u32, first: u32, len: u32, key: [u32; 4]) ->
         place: n,
         cell: 0,
         prev,
+    }
+}
+
+// The header of a store known to be sound, read once.
+pub fn header_of(w: &[u32]) -> Header
+    requires { ⌜ sound (now w) ≡ true ⌝ }
+    ensures { λ r. ⌜ Read (now (w .entry)) (r .cards) (r .faults) (r .maxp) (r .p) ⌝ }
+{
+    let cards = cells::word(w, 1);
+    let faults = cells::word(w, 2);
+    let maxp = cells::word(w, 3);
+    let p = cells::word(w, 4);
+    Header {
+        cards,
+        faults,
+        maxp,
+        p,
+    }
+}
+
+// Where the card of a serial stands in a sound store: its bucket by the serial's code, and the search of that bucket's chain.
+pub fn find(w: &[u32], h: Header, serial: [u8; 16], len: usize) -> Spot
+    requires { ⌜ (sound (now w) ≡ true) × Read (now w) (h .cards) (h .faults) (h .maxp) (h .p) × (validSerial serial len ≡ true) ⌝ }
+    ensures { λ r. ⌜ Finds (decode (now (w .entry))) (take len serial) r ⌝ }
+{
+    let code = rules::serial_code(serial, len);
+    let b = rules::reader_address(code, h.maxp, h.p);
+    let first = cells::word(w, cells::SEGMENTS + b as usize);
+    let key = serial::pack(serial);
+    let r = search(w, h.cards, h.faults, first, len as u32, key);
+    Spot {
+        bucket: b,
+        held: r.held,
+        place: r.place,
+        cell: r.cell,
+        prev: r.prev,
     }
 }

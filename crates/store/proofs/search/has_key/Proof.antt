@@ -1,6 +1,6 @@
 -- `search::has_key` meets its contract: the length is compared, then the four words; the loop's invariant is that what is left decides.
 use mathlib.Core.Path.{_≡_, sym, _∙_}
-use Prim.Native.Nat.{_-_, _≤_}
+use Prim.Native.Nat.{_-_}
 use native.Mathlib.Omega.{arith}
 use borrow.Author.Needs.{needs}
 use Rattle.store.specs.Search.{hasKey}

@@ -1,12 +1,12 @@
 -- `search::search` meets its contract: at each turn of the loop, what the cells that are left give is what the chain gives (`Along`), and
 -- the measure is how many they are.
-use mathlib.Core.Path.{_≡_, sym, _∙_}
-use Prim.Native.Nat.{_-_, _≤_, _<_}
+use mathlib.Core.Path.{sym, _∙_}
+use Prim.Native.Nat.{_-_, _≤_}
 use native.Mathlib.Omega.{arith}
 use lib.ListN.{length}
 use Rattle.model.specs.Layout.{follow}
 use Rattle.model.specs.Meaning.{nextCard}
-use Rattle.store.specs.Search.{hasKey, searchIn, searched}
+use Rattle.store.specs.Search.{searchIn, searched}
 use Rattle.store.proofs.AlongLaws.{Along, along-from, along-to, along-less, along-below, along-stop, along-next, along-end}
 use Rattle.store.proofs.SearchLaws.{search-start, search-none, search-hit, search-on}
 use Rattle.store.proofs.search.search.Statement.{statement}
