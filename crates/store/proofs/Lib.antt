@@ -20,3 +20,8 @@ pub mod HistoryMeans
 pub mod PartsSound
 pub mod SoundParts
 pub mod Decides
+pub mod AlongLaws
+-- Laws of the search, of the words of a store as they are read, and of what is found there
+pub mod SearchLaws
+pub mod StoredLaws
+pub mod FindLaws

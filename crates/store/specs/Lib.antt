@@ -5,3 +5,4 @@ pub mod Walk
 pub mod Checker
 pub mod Leaves
 pub mod Plans
+pub mod Search

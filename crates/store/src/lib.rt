@@ -9,6 +9,7 @@ mod cells;
 mod front;
 mod marks;
 mod parts;
+mod search;
 mod serial;
 mod walks;
 
