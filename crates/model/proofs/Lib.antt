@@ -31,3 +31,5 @@ pub mod Cut
 pub mod Whole
 pub mod Place
 pub mod File
+pub mod Give
+pub mod Remove
