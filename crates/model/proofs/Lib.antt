@@ -40,3 +40,5 @@ pub mod Place
 pub mod File
 -- What the definitions compute
 pub mod Computed
+pub mod Give
+pub mod Remove
