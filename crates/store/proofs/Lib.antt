@@ -25,3 +25,5 @@ pub mod AlongLaws
 pub mod SearchLaws
 pub mod StoredLaws
 pub mod FindLaws
+-- What the contracts admit
+pub mod OneOutcome
