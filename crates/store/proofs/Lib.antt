@@ -10,3 +10,4 @@ pub mod AlongLaws
 pub mod SearchLaws
 pub mod StoredLaws
 pub mod FindLaws
+pub mod ShowLaws

@@ -3,6 +3,7 @@ mod cells;
 mod marks;
 mod search;
 mod serial;
+mod show;
 mod walks;
 
 // What each of the four calls gives.
