@@ -27,3 +27,4 @@ pub mod StoredLaws
 pub mod FindLaws
 -- What the contracts admit
 pub mod OneOutcome
+pub mod ShowLaws
