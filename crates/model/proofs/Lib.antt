@@ -33,3 +33,6 @@ pub mod Place
 pub mod File
 pub mod Give
 pub mod Remove
+pub mod Segments
+pub mod Parting
+pub mod Split
