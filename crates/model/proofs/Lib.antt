@@ -36,3 +36,4 @@ pub mod Remove
 pub mod Segments
 pub mod Parting
 pub mod Split
+pub mod Join
