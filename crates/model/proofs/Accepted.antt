@@ -48,62 +48,46 @@ withdrawn-limits s y = let h = shrunk-limits (removed s y) in record { limit = h
 
 -- the three calls that change a store
 
-placed-size : (s : Store) (y : List ℕ) → size (placed s y) ≡ size s
-unfolding placed
-placed-size s y = refl
-
-removed-size : (s : Store) (y : List ℕ) → size (removed s y) ≡ size s
-unfolding removed
-removed-size s y = refl
-
-filed-size : (s : Store) (y : List ℕ) (day code : ℕ) → size (filed s y day code) ≡ size s
-unfolding filed
-filed-size s y day code = refl
-
--- as many cards more, by the sum of 1 over them
-held-as : (s t : Store) (k : ℕ) → total one (cards t) ≡ total one (cards s) + k → held t ≡ held s + k
-held-as s t k e = omega (arith, length-total (cards s), length-total (cards t))
-
-module _ (s : Store) (g : Good s) (y : List ℕ) where
+module _ (s : Store) (r : Fair s) (y : List ℕ) where
   module _ (valid : serialOk y ≡ true) (new : look s y ≡ []) (room : held s < s .limit) where
-    fair : Fair (placed s y)
-    fair = placed-fair s (g .fair) y valid new room
-
     pub entered-total : (w : Card → ℕ) → total w (cards (entered s y)) ≡ total w (cards s) + w (newCard s y)
     unfolding entered
-    entered-total w = grown-total (placed s y) fair w ∙ placed-total s (g .fair) y w
+    entered-total w = grown-total (placed s y) (placed-fair s r y valid new room) w ∙ placed-total s r y w
 
     pub entered-look : (x : List ℕ) → look (entered s y) x ≡ look s x ++ cond (same x y) (newCard s y ∷ []) []
     unfolding entered
-    entered-look x = grown-look (placed s y) fair x ∙ placed-look s (g .fair) y x
-
-    pub entered-good : Good (entered s y)
-    unfolding entered
-    entered-good =
-        let n = held-as s (placed s y) 1 (placed-total s (g .fair) y one) in
-        let z = placed-size s y in
-        grown-good (placed s y) fair (omega (arith, g .high)) (λ h. omega (arith, g .low (omega arith)))
-
-  pub filed-good : (day code : ℕ) → validFault day code ≡ true → length (look s y) ≡ 1 → faultsHeld s < s .faultLimit → Good (filed s y day code)
-  filed-good day code valid held room =
-      let n = held-as s (filed s y day code) 0 (filed-total s (g .fair) y day code one 0 (λ c. refl) held) in
-      let z = filed-size s y day code in
-      record { fair = filed-fair s (g .fair) y day code valid held room; high = omega (arith, g .high); low = λ h. omega (arith, g .low (omega arith)) }
+    entered-look x = grown-look (placed s y) (placed-fair s r y valid new room) x ∙ placed-look s r y x
 
   pub withdrawn-total : (w : Card → ℕ) → total w (cards (withdrawn s y)) + total w (look s y) ≡ total w (cards s)
   unfolding withdrawn
-  withdrawn-total w = omega (arith, shrunk-total (removed s y) (removed-fair s (g .fair) y) w, removed-total s (g .fair) y w)
+  withdrawn-total w = omega (arith, shrunk-total (removed s y) (removed-fair s r y) w, removed-total s r y w)
 
   pub withdrawn-look : (x : List ℕ) → look (withdrawn s y) x ≡ cond (same y x) [] (look s x)
   unfolding withdrawn
-  withdrawn-look x = shrunk-look (removed s y) (removed-fair s (g .fair) y) x ∙ removed-look s (g .fair) y x
+  withdrawn-look x = shrunk-look (removed s y) (removed-fair s r y) x ∙ removed-look s r y x
+
+-- as many cards more, by the sum of 1 over them
+held-more : (s t : Store) (k : ℕ) → total one (cards t) ≡ total one (cards s) + k → held t ≡ held s + k
+held-more s t k e = omega (arith, length-total (cards s), length-total (cards t))
+
+module _ (s : Store) (g : Good s) (y : List ℕ) where
+  pub entered-good : serialOk y ≡ true → look s y ≡ [] → held s < s .limit → Good (entered s y)
+  unfolding entered placed
+  entered-good valid new room =
+      let n = held-more s (placed s y) 1 (placed-total s (g .fair) y one) in
+      grown-good (placed s y) (placed-fair s (g .fair) y valid new room) (omega (arith, g .high)) (λ h. omega (arith, g .low h))
+
+  pub filed-good : (day code : ℕ) → validFault day code ≡ true → length (look s y) ≡ 1 → faultsHeld s < s .faultLimit → Good (filed s y day code)
+  unfolding filed
+  filed-good day code valid held room =
+      let n = held-more s (filed s y day code) 0 (filed-total s (g .fair) y day code one 0 (λ c. refl) held) in
+      record { fair = filed-fair s (g .fair) y day code valid held room; high = omega (arith, g .high); low = λ h. omega (arith, g .low h) }
 
   pub withdrawn-good : length (look s y) ≡ 1 → Good (withdrawn s y)
-  unfolding withdrawn
+  unfolding withdrawn removed
   withdrawn-good held =
-      let n = held-as (removed s y) s 1 (omega (arith, removed-total s (g .fair) y one, length-total (look s y))) in
-      let z = removed-size s y in
-      shrunk-good (removed s y) (removed-fair s (g .fair) y) (omega (arith, g .high)) (λ h. omega (arith, g .low (omega arith)))
+      let n = held-more (removed s y) s 1 (omega (arith, removed-total s (g .fair) y one, length-total (look s y))) in
+      shrunk-good (removed s y) (removed-fair s (g .fair) y) (omega (arith, g .high)) (λ h. omega (arith, g .low h))
 
 -- a fresh store holds no card
 

@@ -2,7 +2,7 @@
 -- after it are the chain; and what the definitions say over the whole chain, `found`, `without`, `noted`, touches that card alone.
 -- So code that walks to the first match, stops there and changes it does what the definitions say. Cite `chain-cut`, or `absent` and
 -- `present` where it is known which.
-use Prim.Native.Nat.{ℕ, suc, _+_, _≤_}
+use Prim.Native.Nat.{ℕ, _+_, _≤_}
 use mathlib.Core.Path.{_≡_, refl, ap}
 use mathlib.Core.Logic.{_⊎_, inl, inr}
 use mathlib.Core.List.{List, [], _∷_, _++_}
@@ -11,6 +11,7 @@ use native.Mathlib.Omega.{arith}
 use lib.ListN.{length}
 use Rattle.rules.proofs.Tests.{by-cases}
 use Rattle.model.specs.Model.{Fault, Card, Store, chainFor, is, found, before, comparisons, withFault, noted, without}
+use Rattle.model.proofs.Lists.{length-none}
 use Rattle.model.proofs.Fair.{Fair}
 use Rattle.model.proofs.Look.{look-once}
 
@@ -80,12 +81,8 @@ module _ (y : List ℕ) where
 
   pub cut : (chain : List Card) → length (found y chain) ≤ 1 → Absent y chain ⊎ Present y chain
   cut [] h = inl (absent [] refl)
-  cut (c ∷ cs) h = by-cases (is y c) (λ k. inr (here c cs k (empty (found y cs) (rw k at h)))) (λ k. go k (cut cs (rw k at h)))
+  cut (c ∷ cs) h = by-cases (is y c) (λ k. inr (here c cs k (length-none (found y cs) (omega (arith, rw k at h))))) (λ k. go k (cut cs (rw k at h)))
     where
-      empty : (l : List Card) → suc (length l) ≤ 1 → l ≡ []
-      empty [] h = refl
-      empty (x ∷ l) h = absurd (omega arith)
-
       go : is y c ≡ false → Absent y cs ⊎ Present y cs → Absent y (c ∷ cs) ⊎ Present y (c ∷ cs)
       go k (inl a) = inl (absent (c ∷ cs) (rw k (a .none)))
       go k (inr p) = inr (later c cs k p)

@@ -121,10 +121,10 @@ module _ (s : Store) (r : Fair s) (more : size s < top) where
 -- contraction by one bucket
 
 -- the bucket that goes, and the one that it is joined behind
-abbrev going : Store → ℕ
+abbrev pub going : Store → ℕ
 going s = size s - 1
 
-abbrev joined : Store → ℕ
+abbrev pub joined : Store → ℕ
 joined s = lowP (s .maxp) (s .p)
 
 module _ (s : Store) (r : Fair s) (more : least < size s) where

@@ -27,13 +27,20 @@ pub mod Growth
 pub mod Accepted
 pub mod Audit
 pub mod Cut
+-- The four calls by their numbers, and the demands: of the store as lists, then of its words
+pub mod Cases
+pub mod Numbers
+pub mod Demand3
+pub mod Demand2
+pub mod Outcomes
+pub mod Demands
 -- What each change writes
 pub mod Whole
+pub mod Segments
 pub mod Place
 pub mod File
 pub mod Give
 pub mod Remove
-pub mod Segments
 pub mod Parting
 pub mod Split
 pub mod Join

@@ -100,6 +100,10 @@ module _ {A : Type 0} where
       let b = both (f x) (all f l) t in
       by-cases (g x) (λ e. rw e (all-of (k x e (b .0)) (all-kept f g h l k (b .1)))) (λ e. rw e (all-kept f g h l k (b .1)))
 
+  pub length-none : (l : List A) → length l ≡ 0 → l ≡ []
+  length-none [] e = refl
+  length-none (x ∷ l) e = absurd (omega arith)
+
   pub join-append : (a b : List (List A)) → join (a ++ b) ≡ join a ++ join b
   join-append [] b = refl
   join-append (x ∷ a) b = rw (join-append a b, append-assoc)

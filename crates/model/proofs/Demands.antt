@@ -1,0 +1,123 @@
+-- Demands 2 and 3 on words, over every list of calls after an accepted Open: acts and further openings in any order, refused ones and
+-- ones with short scratch included. Each call is, by `call-cases` and `open-cases`, nothing, a fresh store, or the act on the store that
+-- the words stand for; so what holds of one act holds of one call (`kept-call`, `book-call`), and a run of calls is a fold of that.
+-- `demand3`: the words stay sound, each held card's history is what calls and answers alone tell of its serial, faults accepted are
+-- those held and those gone, and 9 is answered exactly when the first less the last is the fault limit. `demand2`: every call tells what
+-- a plain list of cards would tell, and after every call the store holds under each serial what that list holds.
+use Prim.Native.Nat.{ℕ, _+_, _-_, _≤_}
+use mathlib.Core.Path.{_≡_, refl, sym, _∙_}
+use mathlib.Core.Logic.{_↔_}
+use mathlib.Core.List.{List, [], _∷_, _++_, map, append-nil, append-assoc, List·Memᴰ}
+use mathlib.Core.Bool.{true, cond}
+use native.Mathlib.Omega.{arith}
+use lib.Dec.{eqb}
+use lib.ListN.{length, take}
+use borrow.Author.Tests.{eq-eqb, ne-eqb, lt-ltb, le-ltb}
+use Rattle.model.specs.Serial.{validSerial, validFault}
+use Rattle.model.specs.Model.{Card, cards, faultsHeld, fresh}
+use Rattle.model.specs.Layout.{lengthFor, encode, decode, sound}
+use Rattle.model.specs.Calls.{scratchNeed, openCall}
+use Rattle.model.specs.Plain.{slip, Book, Reply, bookOpen}
+use Rattle.model.specs.Runs.{Act.file, perform, Call, Call.opening, Call.acting, outcome, wordsAfter, run, Event, Event.opened, Event.answered, eventsOf, events, history, taken, gone, since, Tell, tellOf, tells, bookCall, bookAfter, bookTells}
+use Rattle.model.proofs.Look.{look}
+use Rattle.model.proofs.Sound.{sound-is, sound-good}
+use Rattle.model.proofs.Fresh.{fair-fresh, fresh-sound}
+use Rattle.model.proofs.Demand3.{good-act, Kept, kept-fresh, kept-open, kept-act, kept-refused, kept-card, kept-room}
+use Rattle.model.proofs.Demand2.{Agrees, emptyBook, fresh-agrees, call-match}
+use Rattle.model.proofs.Outcomes.{read-back, open-cases, call-cases, opened-fresh, sound-call, sound-run}
+
+-- demand 3
+
+pub kept-call : (w : List ℕ) → sound w ≡ true → (es : List Event) → Kept (decode w) es → (c : Call) → Kept (decode (wordsAfter w c)) (es ++ eventsOf w c)
+kept-call w ok es k (opening c f) =
+    open-cases w c f (λ r. Kept (decode (r .words)) (es ++ cond (eqb (r .number) 0) (opened ∷ []) []))
+    (λ v. rw (append-nil es) k) (λ v n. rw (append-nil es) k) (λ v l. rw (read-back (fresh c f) (fair-fresh c f v)) (kept-open es c f v))
+kept-call w ok es k (acting scratch a) =
+    call-cases w scratch a ok (λ r. Kept (decode (r .words)) (es ++ (answered a (r .answer .number) (r .answer .faults) ∷ [])))
+    (λ h. kept-refused k a 11 0 refl)
+    (λ h. rw (read-back (perform (decode w) a .store) (good-act (decode w) (k .good) a .fair)) (kept-act k a))
+
+pub kept-run : (w : List ℕ) → sound w ≡ true → (es : List Event) → Kept (decode w) es → (cs : List Call) → Kept (decode (run w cs)) (es ++ events w cs)
+kept-run w ok es k [] = rw (append-nil es) k
+kept-run w ok es k (c ∷ cs) =
+    rw (← (append-assoc es (eventsOf w c) (events (wordsAfter w c) cs))) (kept-run (wordsAfter w c) (sound-call w ok c) (es ++ eventsOf w c) (kept-call w ok es k c) cs)
+
+-- what demand 3 asks of words w after the events es
+pub record Demand3 (w : List ℕ) (es : List Event) : Type 0 where
+  pub stays-sound : sound w ≡ true
+  -- each held card's history: the faults accepted for its serial since that card was last entered, in filing order
+  pub each : (c : Card) → List·Memᴰ c (cards (decode w)) → map slip (c .faults) ≡ history (c .serial) es []
+  -- faults accepted are those gone with withdrawn cards and the sum of all held histories
+  pub conserved : since taken es 0 ≡ faultsHeld (decode w) + since gone es 0
+  -- a filing that is otherwise in order is refused for room exactly when faults accepted less faults gone are the fault limit
+  pub room : (scratch bytes : List ℕ) (n day code : ℕ) → scratchNeed ≤ length scratch → validSerial bytes n ≡ true → validFault day code ≡ true
+      → length (look (decode w) (take n bytes)) ≡ 1
+      → (outcome w scratch (file bytes n day code) .answer .number ≡ 9) ↔ (since taken es 0 - since gone es 0 ≡ decode w .faultLimit)
+
+pub kept-demand3 : (w : List ℕ) → sound w ≡ true → (es : List Event) → Kept (decode w) es → Demand3 w es
+kept-demand3 w ok es k =
+    record {
+      stays-sound = ok;
+      each = kept-card k;
+      conserved = k .conserved;
+      room = λ scratch bytes n day code enough v u l.
+          call-cases w scratch (file bytes n day code) ok (λ r. (r .answer .number ≡ 9) ↔ (since taken es 0 - since gone es 0 ≡ decode w .faultLimit))
+          (λ h. absurd (omega arith)) (λ h. kept-room k bytes n day code v u l);
+    }
+
+pub demand3 : (w : List ℕ) (c f : ℕ) → openCall w c f .number ≡ 0 → (cs : List Call)
+    → Demand3 (run (openCall w c f .words) cs) (events (openCall w c f .words) cs)
+demand3 w c f e cs =
+    let o = opened-fresh w c f e in
+    let ok = fresh-sound c f (o .0) in
+    let k : Kept (decode (encode (fresh c f))) [] = rw (read-back (fresh c f) (fair-fresh c f (o .0))) (kept-fresh c f (o .0)) in
+    rw (o .1) (kept-demand3 (run (encode (fresh c f)) cs) (sound-run (encode (fresh c f)) ok cs) (events (encode (fresh c f)) cs) (kept-run (encode (fresh c f)) ok [] k cs))
+
+-- demand 2
+
+-- what a reply tells
+abbrev pub tellBy : Reply → Tell
+tellBy r = record { number = r .number; faults = r .faults; room = r .room }
+
+-- a call that tells t and leaves the words w did as the list did
+pub record AsBook (t : Tell) (w : List ℕ) (r : Reply) : Type 0 where
+  pub tell : t ≡ tellBy r
+  pub agrees : Agrees (r .book) (decode w)
+
+pub book-call : (w : List ℕ) → sound w ≡ true → (b : Book) → Agrees b (decode w) → (c : Call) → AsBook (tellOf w c) (wordsAfter w c) (bookCall b c)
+unfolding bookOpen
+book-call w ok b a (opening c f) =
+    let long : length w ≡ lengthFor (b .limit) (b .faultLimit) = rw (a .limit, a .faultLimit) (sound-is w ok .0 .long) in
+    open-cases w c f (λ r. AsBook (record { number = r .number; faults = 0; room = [] }) (r .words) (bookOpen b c f))
+    (λ v. rw v (record { tell = refl; agrees = a }))
+    (λ v n. rw (v, ne-eqb (lengthFor (b .limit) (b .faultLimit)) (lengthFor c f) (λ e. n (long ∙ e))) (record { tell = refl; agrees = a }))
+    (λ v l. rw (v, eq-eqb (lengthFor (b .limit) (b .faultLimit)) (lengthFor c f) (sym long ∙ l))
+    (record { tell = refl; agrees = rw (read-back (fresh c f) (fair-fresh c f v)) (fresh-agrees c f v) }))
+book-call w ok b a (acting scratch act) =
+    call-cases w scratch act ok
+    (λ r. AsBook (record { number = r .answer .number; faults = r .answer .faults; room = r .room }) (r .words) (bookCall b (acting scratch act)))
+    (λ h. rw (lt-ltb (length scratch) scratchNeed h) (record { tell = refl; agrees = a }))
+    (λ h. let g = sound-good w ok .0 in
+    let m = call-match b (decode w) g a act in
+    rw (le-ltb (length scratch) scratchNeed h)
+    (record { tell = rw (m .number, m .faults, m .room); agrees = rw (read-back (perform (decode w) act .store) (good-act (decode w) g act .fair)) (m .agrees) }))
+
+-- what demand 2 asks of words w and calls cs beside the list b
+pub record Demand2 (w : List ℕ) (b : Book) (cs : List Call) : Type 0 where
+  -- each call tells what the list would tell
+  pub same-tells : tells w cs ≡ bookTells b cs
+  -- and under each serial the store holds what the list holds
+  pub agrees : Agrees (bookAfter b cs) (decode (run w cs))
+
+pub book-run : (w : List ℕ) → sound w ≡ true → (b : Book) → Agrees b (decode w) → (cs : List Call) → Demand2 w b cs
+book-run w ok b a [] = record { same-tells = refl; agrees = a }
+book-run w ok b a (c ∷ cs) =
+    let r = book-call w ok b a c in
+    let d = book-run (wordsAfter w c) (sound-call w ok c) (bookCall b c .book) (r .agrees) cs in
+    record { same-tells = rw (r .tell, d .same-tells); agrees = d .agrees }
+
+pub demand2 : (w : List ℕ) (c f : ℕ) → openCall w c f .number ≡ 0 → (cs : List Call) → Demand2 (openCall w c f .words) (emptyBook c f) cs
+demand2 w c f e cs =
+    let o = opened-fresh w c f e in
+    let a : Agrees (emptyBook c f) (decode (encode (fresh c f))) = rw (read-back (fresh c f) (fair-fresh c f (o .0))) (fresh-agrees c f (o .0)) in
+    rw (o .1) (book-run (encode (fresh c f)) (fresh-sound c f (o .0)) (emptyBook c f) a cs)

@@ -1,0 +1,98 @@
+-- A call on words by cases: with short scratch nothing happens, and on sound words the call is the act on the store that the words
+-- stand for, written back (`call-cases`); Open by its three answers (`open-cases`). Since the words of a fair store are read back as
+-- that store (`read-back`), sound words stay sound under every call (`sound-call`) and every run of calls (`sound-run`).
+-- The numbers of a call that come before its act, and those of Open, are given exactly when the rules say (`call-numbers`, `open-numbers`).
+use Prim.Native.Nat.{ℕ, _≤_, _<_}
+use mathlib.Core.Path.{_≡_, refl}
+use mathlib.Core.Logic.{_↔_}
+use mathlib.Core.List.{List, [], _∷_}
+use mathlib.Core.Bool.{true, false}
+use native.Mathlib.Omega.{arith}
+use lib.Dec.{ltb, eqb}
+use lib.ListN.{length}
+use borrow.Author.Tests.{eqb-true, eqb-false, ltb-true, ltb-false}
+use Rattle.rules.proofs.Tests.{by-cases, not-both}
+use Rattle.model.specs.Model.{Store, fresh}
+use Rattle.model.specs.Layout.{limitsOk, lengthFor, encode, decode, sound}
+use Rattle.model.specs.Calls.{Outcome, Opened, refused, scratchNeed, cleaned, call, openCall}
+use Rattle.model.specs.Runs.{Act, roomOf, perform, Call, Call.opening, Call.acting, outcome, wordsAfter, run}
+use Rattle.model.proofs.Fair.{Fair}
+use Rattle.model.proofs.Rep.{rep-encode}
+use Rattle.model.proofs.Decode.{rep-decode}
+use Rattle.model.proofs.Sound.{good-sound, sound-good}
+use Rattle.model.proofs.Fresh.{fresh-sound}
+use Rattle.model.proofs.Numbers.{hit, miss, act-numbers}
+use Rattle.model.proofs.Demand3.{good-act}
+
+pub read-back : (s : Store) → Fair s → decode (encode s) ≡ s
+read-back s r = rep-decode (encode s) s (rep-encode s r)
+
+pub open-cases : (w : List ℕ) (c f : ℕ) (P : Opened → Type 0)
+    → (limitsOk c f ≡ false → P (record { number = 1; words = w }))
+    → (limitsOk c f ≡ true → (length w ≡ lengthFor c f → ⊥) → P (record { number = 2; words = w }))
+    → (limitsOk c f ≡ true → length w ≡ lengthFor c f → P (record { number = 0; words = encode (fresh c f) }))
+    → P (openCall w c f)
+unfolding openCall
+open-cases w c f P limits long done =
+    by-cases (limitsOk c f)
+    (λ v. rw v (by-cases (eqb (length w) (lengthFor c f))
+    (λ e. rw e (done v (eqb-true (length w) (lengthFor c f) e)))
+    (λ e. rw e (long v (eqb-false (length w) (lengthFor c f) e)))))
+    (λ v. rw v (limits v))
+
+pub call-cases : (w scratch : List ℕ) (a : Act) → sound w ≡ true → (P : Outcome → Type 0)
+    → (length scratch < scratchNeed → P (record { answer = refused 11; words = w; room = roomOf a; scratch = scratch }))
+    → (scratchNeed ≤ length scratch
+    → P (record { answer = perform (decode w) a .answer; words = encode (perform (decode w) a .store); room = perform (decode w) a .room; scratch = cleaned scratch }))
+    → P (outcome w scratch a)
+unfolding call
+call-cases w scratch a ok P short done =
+    by-cases (ltb (length scratch) scratchNeed)
+    (λ e. rw e (short (ltb-true (length scratch) scratchNeed e)))
+    (λ e. rw (e, ok) (done (ltb-false (length scratch) scratchNeed e)))
+
+-- an accepted Open leaves the words of a fresh store
+pub opened-fresh : (w : List ℕ) (c f : ℕ) → openCall w c f .number ≡ 0 → (limitsOk c f ≡ true) × (openCall w c f .words ≡ encode (fresh c f))
+opened-fresh w c f = open-cases w c f (λ r. r .number ≡ 0 → (limitsOk c f ≡ true) × (r .words ≡ encode (fresh c f)))
+    (λ v e. absurd (omega arith)) (λ v n e. absurd (omega arith)) (λ v l e. (v, refl))
+
+-- every call leaves sound words sound
+pub sound-call : (w : List ℕ) → sound w ≡ true → (c : Call) → sound (wordsAfter w c) ≡ true
+sound-call w ok (opening c f) = open-cases w c f (λ r. sound (r .words) ≡ true) (λ v. ok) (λ v n. ok) (λ v l. fresh-sound c f v)
+sound-call w ok (acting scratch a) =
+    call-cases w scratch a ok (λ r. sound (r .words) ≡ true) (λ h. ok) (λ h. good-sound (perform (decode w) a .store) (good-act (decode w) (sound-good w ok .0) a))
+
+pub sound-run : (w : List ℕ) → sound w ≡ true → (cs : List Call) → sound (run w cs) ≡ true
+sound-run w ok [] = ok
+sound-run w ok (c ∷ cs) = sound-run (wordsAfter w c) (sound-call w ok c) cs
+
+-- the numbers that are given before the act: 11, then 3; and those of Open. With enough scratch and sound words the number is the act's,
+-- by `call-cases`, and `Numbers` has its conditions.
+
+pub record CallNumbers (w scratch : List ℕ) (k : ℕ) : Type 0 where
+  pub short : (k ≡ 11) ↔ (length scratch < scratchNeed)
+  pub unsound : (k ≡ 3) ↔ ((scratchNeed ≤ length scratch) × (sound w ≡ false))
+
+pub call-numbers : (w scratch : List ℕ) (a : Act) → CallNumbers w scratch (outcome w scratch a .answer .number)
+unfolding call
+call-numbers w scratch a =
+    by-cases (ltb (length scratch) scratchNeed)
+    (λ e. let h = ltb-true (length scratch) scratchNeed e in
+    rw e (record { short = hit refl h; unsound = miss (omega arith) (λ c. omega arith) }))
+    (λ e. let h = ltb-false (length scratch) scratchNeed e in
+    rw e (by-cases (sound w)
+    (λ t. let n = act-numbers (decode w) (sound-good w t .0) a in
+    rw t (record { short = miss (n .1) (omega arith); unsound = miss (n .0) (λ c. not-both t (c .1)) }))
+    (λ t. rw t (record { short = miss (omega arith) (omega arith); unsound = hit refl (h, t) }))))
+
+pub record OpenNumbers (w : List ℕ) (c f k : ℕ) : Type 0 where
+  pub limits : (k ≡ 1) ↔ (limitsOk c f ≡ false)
+  pub long : (k ≡ 2) ↔ ((limitsOk c f ≡ true) × (length w ≡ lengthFor c f → ⊥))
+  pub done : (k ≡ 0) ↔ ((limitsOk c f ≡ true) × (length w ≡ lengthFor c f))
+
+pub open-numbers : (w : List ℕ) (c f : ℕ) → OpenNumbers w c f (openCall w c f .number)
+open-numbers w c f =
+    open-cases w c f (λ r. OpenNumbers w c f (r .number))
+    (λ v. record { limits = hit refl v; long = miss (omega arith) (λ c. not-both (c .0) v); done = miss (omega arith) (λ c. not-both (c .0) v) })
+    (λ v n. record { limits = miss (omega arith) (λ c. not-both v c); long = hit refl (v, n); done = miss (omega arith) (λ c. n (c .1)) })
+    (λ v l. record { limits = miss (omega arith) (λ c. not-both v c); long = miss (omega arith) (λ c. c .1 l); done = hit refl (v, l) })
