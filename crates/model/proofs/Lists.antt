@@ -227,6 +227,10 @@ module _ {A : Type 0} (P : A → Type 0) where
   every-parts [] ys p = (tt, p)
   every-parts (x ∷ xs) ys p = let r = every-parts xs ys (p .1) in ((p .0, r .0), r .1)
 
+  pub every-keep : (f : A → Bool) (l : List A) → Every P l → Every P (keep f l)
+  every-keep f [] r = tt
+  every-keep f (x ∷ l) r = by-cases (f x) (λ e. rw e (r .0, every-keep f l (r .1))) (λ e. rw e (every-keep f l (r .1)))
+
   pub every-join : (bs : List (List A)) → Every P (join bs) → (j : ℕ) → Every P (getD bs j [])
   every-join [] r j = tt
   every-join (b ∷ bs) r zero = every-parts b (join bs) r .0

@@ -22,7 +22,7 @@ use Rattle.model.proofs.Each.{many, Each}
 use Rattle.model.proofs.Places.{cellAt-from, cellAt-below, cellAt-end}
 use Rattle.model.proofs.Chains.{Stands, Stand, stand-frame, many-chained}
 use Rattle.model.proofs.Part.{cellIn, Held}
-use Rattle.model.proofs.Writes.{Apart, sets-out, take-sets, held-set, held-write, held-cut, held-word, held-behind, y-in}
+use Rattle.model.proofs.Writes.{Apart, sets-out, write-cell, take-sets, held-set, held-write, held-cut, held-word, held-behind, y-in}
 use Rattle.model.proofs.Fair.{Fair}
 use Rattle.model.proofs.Rep.{Rep}
 use Rattle.model.proofs.Decode.{head-free}
@@ -160,6 +160,14 @@ module _ (w : List ℕ) (c f : ℕ) (fr : List ℕ) (cs fs : List (List Cell)) (
       faults-write (sets w p vs) fs (length-sets w p vs) (take-sets cardsAt vs w p (omega (arith, cellAt-from (faultsAt c) faultWidth i 0)))
       (λ m h. sets-out vs w p m (inl (omega (arith, cellAt-from (faultsAt c) faultWidth i 0)))) (r .faultsApart)
       (held-write w (faultsAt c) faultWidth f fs faults-fit (r .faultsApart) (r .faults) i vs a l z)
+
+  -- one word of such a cell
+  pub card-loose : (i k v : ℕ) → 1 ≤ i → i ≤ c → k < cardWidth → many i (join cs) ≡ 0 → Whole (set w (cellAt cardsAt cardWidth i k) v) c f fr cs fs
+  card-loose i k v a b l z =
+      card-set i k v cs a b l (r .cardsApart) λ j.
+      stand-frame cardWidth (cellIn (set w (cellAt cardsAt cardWidth i k) v) cardsAt cardWidth) (cellIn w cardsAt cardWidth) (chained 0 (getD cs j []))
+      (λ x m p q. let h : 0 < many x (join cs) = omega (arith, many-chained 0 x (getD cs j []), total-one (λ c. bit (eqb x (c .at))) cs j) in
+      write-cell w cardsAt cardWidth i x k m v a (r .cardsApart .inside x h .0) l q (λ e. let g : many x (join cs) ≡ 0 = ap (λ (y : ℕ). many y (join cs)) e ∙ z in omega arith)) (r .cards j)
 
   -- nothing is written, and chain a is seen to be another one
   pub card-chain : (a : ℕ) (ch : List Cell) → a < length cs → Apart c (join (set cs a ch)) → Stand (cellIn w cardsAt cardWidth) cardWidth (chained 0 ch)
