@@ -44,3 +44,4 @@ pub mod Remove
 pub mod Parting
 pub mod Split
 pub mod Join
+pub mod Changes
