@@ -11,15 +11,16 @@ use lib.Dec.{eqb, ltb, lit<}
 use lib.ListN.{length, getD, set, take, length-set, length-map, List·getD-map, List·getD-eq-default}
 use lib.Seq.{getD-set-same, getD-set-other}
 use borrow.Author.Tests.{eqb-true, eqb-false, ltb-true, ltb-false}
-use Rattle.rules.specs.Table.{least, top, lowMaxp, lowP}
+use Rattle.rules.specs.Table.{least, top, contracts, lowMaxp, lowP}
 use Rattle.rules.proofs.Tests.{by-cases, eq?}
 use Rattle.rules.proofs.States.{state-of}
+use Rattle.rules.proofs.Loads.{contracts-true}
 use Rattle.rules.proofs.Addresses.{shrink-ok, shrink-count}
 use Rattle.model.specs.Lists.{join, total}
-use Rattle.model.specs.Model.{Store, Card, cards, held, faultsHeld, size, bucket, cellsOf, contract}
+use Rattle.model.specs.Model.{Store, Card, cards, held, faultsHeld, size, bucket, cellsOf, contract, shrunk}
 use Rattle.model.specs.Layout.{Cell, headOr, chained, cardWidth, faultWidth, directoryAt, segmentsAt, segmentSize, cardsAt, faultsAt, cardCell, freeCell, cardChains, faultChains, header, directory, segments, front, first, last}
-use Rattle.model.specs.Meaning.{bucketWord}
-use Rattle.model.specs.Words.{cardAt, linkAt, closeWords, joinWords}
+use Rattle.model.specs.Meaning.{bucketsIn, bucketWord, bucketCells}
+use Rattle.model.specs.Words.{cardAt, linkAt, closeWords, joinWords, shrinkWords}
 use Rattle.model.proofs.Lists.{getD-front, map-append, Every, every-append, every-join, join-every, every-set}
 use Rattle.model.proofs.Sums.{bit, bit-same, total-append, total-set, total-one, length-total}
 use Rattle.model.proofs.Each.{many}
@@ -29,10 +30,10 @@ use Rattle.model.proofs.Writes.{Apart}
 use Rattle.model.proofs.Fair.{one, filings, Fair, faults-total}
 use Rattle.model.proofs.Rep.{Rep, segments-length, size-top}
 use Rattle.model.proofs.Decode.{cards-at, head-cards}
-use Rattle.model.proofs.Readings.{maxp-at, p-at, bucket-at}
+use Rattle.model.proofs.Readings.{maxp-at, p-at, held-at, bucket-at, chain-at}
 use Rattle.model.proofs.Growth.{contract-at, contract-size, contract-total, contract-fair}
 use Rattle.model.proofs.Segments.{entriesFor, segment-kept, segment-closed, segment-word, segments-by-word}
-use Rattle.model.proofs.Whole.{Whole, rep-whole, whole-rep, each-apart, apart-less, front-write, card-chain, card-cut, fronted, fronted-bucket, fronted-entry, Recorded, held-recorded, recorded-held, ends, last-nil, last-snoc, link-first, link-behind}
+use Rattle.model.proofs.Whole.{Whole, rep-whole, whole-rep, each-apart, apart-less, front-write, card-chain, card-cut, fronted, fronted-bucket, fronted-entry, Recorded, held-recorded, recorded-held, ends, link-none, link-last}
 
 module _ (w : List ℕ) (s : Store) (r : Rep w s) (more : least < size s) where
   -- the bucket that is joined, and the one that goes
@@ -169,12 +170,10 @@ module _ (w : List ℕ) (s : Store) (r : Rep w s) (more : least < size s) where
   linked = go (ends (bucket s q))
     where
       go : (bucket s q ≡ []) ⊎ ((xs : List Card) × (x : Card) × (bucket s q ≡ xs ++ (x ∷ []))) → (g : List ℕ) × Linked w₁ g
-      go (inl z) =
-          (set (segments s) q v, subst (λ (i : ℕ). Linked (set w i v) (set (segments s) q v)) (sym (ap (λ (l : List Card). linkAt q (last (cellsOf l))) z ∙ ap (linkAt q) last-nil ∙ link-first q)) (linked-first z))
+      go (inl z) = (set (segments s) q v, subst (λ (i : ℕ). Linked (set w i v) (set (segments s) q v)) (sym (link-none (λ (c : Card). c .at) (bucket s q) q z)) (linked-first z))
       go (inr (xs, x, z)) =
           let h = linked-behind xs x z in
-          let l : last (cellsOf (bucket s q)) ≡ x .at = ap (λ (l : List Card). last (cellsOf l)) z ∙ ap last (map-append (λ (c : Card). c .at) xs (x ∷ [])) ∙ last-snoc (cellsOf xs) (x .at) in
-          (segments s, subst (λ (i : ℕ). Linked (set w i v) (segments s)) (sym (ap (linkAt q) l ∙ link-behind q (x .at) (h .0))) (h .1))
+          (segments s, subst (λ (i : ℕ). Linked (set w i v) (segments s)) (sym (link-last (λ (c : Card). c .at) (bucket s q) q xs x z (h .0))) (h .1))
 
   -- the last bucket's word becomes 0
 
@@ -289,3 +288,16 @@ module _ (w : List ℕ) (s : Store) (r : Rep w s) (more : least < size s) where
       (λ t. fronted (s .limit) (s .faultLimit) (lowMaxp (s .maxp) (s .p)) q (held-contract t) (faults-contract t) (first (s .free)) (first (s .freeFaults)) (directory (contract s)) (segments (contract s)))
       refl (recorded-contract (set x 4 q))
       (front-write x (s .limit) (s .faultLimit) _ _ _ (front-write u (s .limit) (s .faultLimit) _ _ _ closed 3 (lowMaxp (s .maxp) (s .p)) (lit< tt)) 4 q (lit< tt)))
+
+-- and if the load asks for it
+pub rep-shrunk : (w : List ℕ) (s : Store) → Rep w s → Rep (shrinkWords w) (shrunk s)
+unfolding shrinkWords shrunk
+rep-shrunk w s r =
+    let n : contracts (getD w 5 0) (bucketsIn w) ≡ contracts (held s) (size s) = λ t. contracts (held-at w s r t) (maxp-at w s r t + p-at w s r t) in
+    by-cases (contracts (held s) (size s)) (λ e. rw (n, e) (joined (contracts-true (held s) (size s) e .1))) (λ e. rw (n, e) r)
+  where
+    joined : least < size s → Rep (joinWords w (last (bucketCells w (lowP (getD w 3 0) (getD w 4 0))))) (contract s)
+    joined more =
+        let k : bucketCells w (lowP (getD w 3 0) (getD w 4 0)) ≡ cellsOf (bucket s (lowP (s .maxp) (s .p))) =
+        (λ t. bucketCells w (lowP (maxp-at w s r t) (p-at w s r t))) ∙ chain-at w s r (lowP (s .maxp) (s .p)) (omega (arith, inside w s r more, number w s r more)) in
+        subst (λ (l : List ℕ). Rep (joinWords w (last l)) (contract s)) (sym k) (rep-contract w s r more)

@@ -46,3 +46,4 @@ pub mod Remove
 pub mod Parting
 pub mod Split
 pub mod Join
+pub mod Changes

@@ -15,14 +15,13 @@ use Rattle.rules.proofs.Tests.{eq?}
 use Rattle.model.specs.Lists.{join}
 use Rattle.model.specs.Layout.{Cell, headOr, chained, atsOf, cellAt, cardWidth, segmentsAt, segmentSize, cardsAt, last}
 use Rattle.model.specs.Words.{cardAt, linkAt}
-use Rattle.model.proofs.Lists.{map-append}
 use Rattle.model.proofs.Sums.{bit, bit-same, total-append}
 use Rattle.model.proofs.Each.{many}
 use Rattle.model.proofs.Places.{cellAt-from, cellAt-below}
 use Rattle.model.proofs.Chains.{Memory, Stand, stand-frame, stand-append, many-chained, head-append, chained-append, chain-retarget}
 use Rattle.model.proofs.Part.{cellIn}
 use Rattle.model.proofs.Writes.{write-here, write-word, write-cell}
-use Rattle.model.proofs.Whole.{Whole, cards-fit, front-write, card-loose, fronted, fronted-bucket, ends, last-nil, last-snoc, link-first, link-behind}
+use Rattle.model.proofs.Whole.{Whole, cards-fit, front-write, card-loose, fronted, fronted-bucket, ends, link-none, link-last}
 
 -- the words apart from the two chains: limits, counts, free cells, directory, and the other chains
 module _ (c f m p n k i j : ℕ) (dir : List ℕ) (fits : length dir ≡ top / segmentSize) (others faults : List (List Cell)) (segs : List ℕ) where
@@ -154,8 +153,5 @@ module _ (c f m p n k i j : ℕ) (dir : List ℕ) (fits : length dir ≡ top / s
     end-set = go (ends K)
       where
         go : (K ≡ []) ⊎ ((xs : List Cell) × (y : Cell) × (K ≡ xs ++ (y ∷ []))) → (h : List ℕ) × After (linkAt b (last (atsOf K))) h
-        go (inl e) = (set g b v, subst (λ (q : ℕ). After q (set g b v)) (sym (ap (λ (l : List Cell). linkAt b (last (atsOf l))) e ∙ ap (linkAt b) last-nil ∙ link-first b)) (end-first e))
-        go (inr (xs, y, e)) =
-            let q = end-behind xs y e in
-            let l : last (atsOf K) ≡ y .at = ap (λ (l : List Cell). last (atsOf l)) e ∙ ap last (map-append (λ (c : Cell). c .at) xs (y ∷ [])) ∙ last-snoc (atsOf xs) (y .at) in
-            (g, subst (λ (q : ℕ). After q g) (sym (ap (linkAt b) l ∙ link-behind b (y .at) (q .0))) (q .1))
+        go (inl e) = (set g b v, subst (λ (q : ℕ). After q (set g b v)) (sym (link-none (λ (c : Cell). c .at) K b e)) (end-first e))
+        go (inr (xs, y, e)) = let q = end-behind xs y e in (g, subst (λ (q : ℕ). After q g) (sym (link-last (λ (c : Cell). c .at) K b xs y e (q .0))) (q .1))

@@ -11,7 +11,7 @@ use Rattle.model.specs.Serial.{serialOk}
 use Rattle.model.specs.Model.{Store, Card, cards, held, faultsHeld, bucket, cellsOf, faultCellsOf}
 use Rattle.model.specs.Layout.{Cell, headOr, chained, cardWidth, segmentsAt, cardsAt, cardCell, header, front, first, last, cardWord, readCard, readFault, readChain}
 use Rattle.model.specs.Meaning.{bucketWord, bucketCells, historyCells, serialIn, bytesIn}
-use Rattle.model.proofs.Lists.{map-append, Every, every-parts}
+use Rattle.model.proofs.Lists.{map-append, Every, every-imp, every-parts}
 use Rattle.model.proofs.Chains.{Memory, Stands, Stand, stand-parts, chained-append}
 use Rattle.model.proofs.Part.{cellIn}
 use Rattle.model.proofs.Serials.{serial-read}
@@ -80,6 +80,10 @@ module _ (w : List ℕ) (s : Store) (r : Rep w s) where
   pub chain-at : (b : ℕ) → b < length (s .buckets) → bucketCells w b ≡ cellsOf (bucket s b)
   chain-at b h = sym (chain-back b h .0)
 
+  pub serials-at : (b : ℕ) → b < length (s .buckets) → Every (λ c. serialIn w (c .at) ≡ c .serial) (bucket s b)
+  unfolding serialIn bytesIn readCard
+  serials-at b h = every-imp (λ c. readCard w (c .at) ≡ c) (λ c. serialIn w (c .at) ≡ c .serial) (bucket s b) (λ c e. ap (λ (c : Card). c .serial) e) (chain-back b h .1)
+
   -- the card x of bucket b
   module _ (b : ℕ) (xs : List Card) (x : Card) (ys : List Card) (e : bucket s b ≡ xs ++ (x ∷ ys)) where
     card-stands : Stands (cellIn w cardsAt cardWidth) cardWidth (record { at = cardCell x .at; words = headOr 0 (map cardCell ys) ∷ cardCell x .words })
@@ -103,12 +107,8 @@ module _ (w : List ℕ) (s : Store) (r : Rep w s) where
     unfolding cardWord cardCell
     fault-count-at = card-stands 8 (lit< tt)
 
-    pub card-at : b < length (s .buckets) → readCard w (x .at) ≡ x
+    card-at : b < length (s .buckets) → readCard w (x .at) ≡ x
     card-at h = every-parts (λ c. readCard w (c .at) ≡ c) xs (x ∷ ys) (subst (Every (λ c. readCard w (c .at) ≡ c)) e (chain-back b h .1)) .1 .0
-
-    pub serial-at : b < length (s .buckets) → serialIn w (x .at) ≡ x .serial
-    unfolding serialIn bytesIn readCard
-    serial-at h = ap (λ (c : Card). c .serial) (card-at h)
 
     -- its history
     history-back : b < length (s .buckets) → (faultCellsOf (x .faults) ≡ historyCells w (x .at)) × Every (λ f. readFault w (f .at) ≡ f) (x .faults)

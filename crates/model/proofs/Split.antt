@@ -11,15 +11,15 @@ use lib.ListN.{length, getD, set, length-map, List·getD-map}
 use lib.Seq.{append-snoc, getD-set-other}
 use borrow.Author.Tests.{eqb-true, eqb-false, ne-eqb}
 use Rattle.rules.specs.Code.{codeOf}
-use Rattle.rules.specs.Table.{top, highMaxp, highP}
+use Rattle.rules.specs.Table.{top, splits, highMaxp, highP}
 use Rattle.rules.proofs.Tests.{by-cases, both}
 use Rattle.rules.proofs.States.{state-of}
 use Rattle.model.specs.Lists.{all, keep, join, total}
 use Rattle.model.specs.Serial.{serialOk}
-use Rattle.model.specs.Model.{Store, Card, cards, held, faultsHeld, size, bucket, cellsOf, moves, moving, staying, split}
+use Rattle.model.specs.Model.{Store, Card, cards, held, faultsHeld, size, bucket, cellsOf, moves, moving, staying, split, grown}
 use Rattle.model.specs.Layout.{Cell, headOr, chained, atsOf, cardWidth, faultWidth, directoryAt, segmentsAt, segmentSize, cardsAt, faultsAt, cardCell, freeCell, cardChains, faultChains, header, directory, segments, front, first, last, cardWord, goodCard}
-use Rattle.model.specs.Meaning.{bucketWord}
-use Rattle.model.specs.Words.{linkAt, openWords, movesAt, partWords, splitWords}
+use Rattle.model.specs.Meaning.{bucketsIn, bucketWord}
+use Rattle.model.specs.Words.{linkAt, openWords, movesAt, partWords, splitWords, growWords}
 use Rattle.model.proofs.Lists.{join-append, map-append, Every, every-append, every-keep, every-join, every-set}
 use Rattle.model.proofs.Sums.{bit, bit-same, total-set, total-one, length-total}
 use Rattle.model.proofs.Each.{many}
@@ -28,9 +28,9 @@ use Rattle.model.proofs.Part.{cellIn, Held}
 use Rattle.model.proofs.Fair.{one, filings, Fair, card-count, faults-total}
 use Rattle.model.proofs.Rep.{Rep, segments-length}
 use Rattle.model.proofs.Decode.{limit-at, cards-at, head-cards}
-use Rattle.model.proofs.Readings.{maxp-at, p-at, bucket-at, serial-stands}
-use Rattle.model.proofs.Whole.{Whole, rep-whole, each-apart, apart-less, whole-rep, front-write, card-chain, fronted, fronted-entry, Recorded, held-recorded, recorded-held, last-snoc}
-use Rattle.model.proofs.Growth.{split-at, split-size, split-total, split-fair}
+use Rattle.model.proofs.Readings.{held-at, maxp-at, p-at, bucket-at, serial-stands}
+use Rattle.model.proofs.Whole.{Whole, rep-whole, each-apart, apart-less, whole-rep, front-write, card-chain, fronted, fronted-entry, Recorded, held-recorded, recorded-held, last-at}
+use Rattle.model.proofs.Growth.{split-at, split-size, split-total, split-fair, split-room}
 use Rattle.model.proofs.Segments.{entriesFor, segment-kept, segment-opened, segment-word, segments-by-word}
 use Rattle.model.proofs.Parting.{Parting, turned, cell-over, end-set}
 
@@ -57,7 +57,7 @@ ats-cards [] = refl
 ats-cards (c ∷ cs) = ap (λ (l : List ℕ). c .at ∷ l) (ats-cards cs)
 
 last-card : (l : List Card) (x : Card) → last (cellsOf (l ++ (x ∷ []))) ≡ x .at
-last-card l x = ap last (map-append (λ (c : Card). c .at) l (x ∷ [])) ∙ last-snoc (cellsOf l) (x .at)
+last-card l x = last-at (λ (c : Card). c .at) (l ++ (x ∷ [])) l x refl
 
 module _ (w₀ : List ℕ) (s : Store) (r : Rep w₀ s) (more : size s < top) where
   abbrev p : ℕ
@@ -318,3 +318,10 @@ module _ (w₀ : List ℕ) (s : Store) (r : Rep w₀ s) (more : size s < top) wh
       (λ t. fronted (s .limit) (s .faultLimit) (highMaxp (s .maxp) (s .p)) (highP (s .maxp) (s .p)) (held-split t) (faults-split t) (first (s .free)) (first (s .freeFaults)) (directory (split s)) (segments (split s)))
       refl (recorded-split (set v 4 (highP (s .maxp) (s .p))))
       (front-write v (s .limit) (s .faultLimit) _ _ _ (front-write u (s .limit) (s .faultLimit) _ _ _ opened 3 (highMaxp (s .maxp) (s .p)) (lit< tt)) 4 (highP (s .maxp) (s .p)) (lit< tt)))
+
+-- and if the load asks for it
+pub rep-grown : (w : List ℕ) (s : Store) → Rep w s → Rep (growWords w) (grown s)
+unfolding growWords grown
+rep-grown w s r =
+    let n : splits (getD w 5 0) (bucketsIn w) ≡ splits (held s) (size s) = λ t. splits (held-at w s r t) (maxp-at w s r t + p-at w s r t) in
+    by-cases (splits (held s) (size s)) (λ e. rw (n, e) (rep-split w s r (split-room s (r .fair) e))) (λ e. rw (n, e) r)

@@ -1,7 +1,8 @@
--- Words in the middle of a change: a front and chains that need not be a store's, each cell in one chain at most. A step is one write,
--- or none: a word of the front, a cell that stands in no chain, a next word that leads elsewhere, another word of a cell, or chains seen
--- otherwise where nothing is written. What is not written stays, so each law has one part that changes. A change of a store is such steps from `rep-whole` to
--- `whole-rep`.
+-- Words in the middle of a change: a front and chains that need not be a store's, each cell in one chain at most. A step is one write, or
+-- none: a word of the front, a cell that stands in no chain, a next word that leads elsewhere, another word of a cell, or chains seen
+-- otherwise where nothing is written. What is not written stays, so each law has one part that changes, and a change of a store is such
+-- steps from `rep-whole` to `whole-rep`. Behind the steps: the front with one word set, the histories of cards, the first free cell taken
+-- out of its chain, and where the end of a chain is written.
 use mathlib.Core.Path.{_≡_, refl, sym, ap, _∙_, subst}
 use mathlib.Core.Logic.{_⊎_, inl, inr}
 use mathlib.Core.List.{List, [], _∷_, _++_, map, append-nil, append-assoc}
@@ -338,6 +339,12 @@ module _ (w : List ℕ) (base width n : ℕ) (free : List ℕ) (others : List (L
   unfolding freeCell
   taken-next = taken-stand .0 0 z ∙ sym (head-free width (drop 1 free))
 
+last-snoc : (l : List ℕ) (x : ℕ) → last (l ++ (x ∷ [])) ≡ x
+unfolding last
+last-snoc [] x = refl
+last-snoc (y ∷ []) x = refl
+last-snoc (y ∷ z ∷ l) x = last-snoc (z ∷ l) x
+
 -- the end of a chain: none, or a last cell, behind which the next one is linked
 module _ {A : Type 0} where
   pub ends : (l : List A) → (l ≡ []) ⊎ ((xs : List A) × (x : A) × (l ≡ xs ++ (x ∷ [])))
@@ -348,20 +355,18 @@ module _ {A : Type 0} where
       go (inl e) = inr ([], x, ap (λ (m : List A). x ∷ m) e)
       go (inr (xs, z, e)) = inr (x ∷ xs, z, ap (λ (m : List A). x ∷ m) e)
 
-pub last-nil : last [] ≡ 0
-unfolding last
-last-nil = refl
+  module _ (at : A → ℕ) (l : List A) where
+    pub last-none : l ≡ [] → last (map at l) ≡ 0
+    unfolding last
+    last-none e = ap (λ (l : List A). last (map at l)) e
 
-pub last-snoc : (l : List ℕ) (x : ℕ) → last (l ++ (x ∷ [])) ≡ x
-unfolding last
-last-snoc [] x = refl
-last-snoc (y ∷ []) x = refl
-last-snoc (y ∷ z ∷ l) x = last-snoc (z ∷ l) x
+    pub last-at : (xs : List A) (x : A) → l ≡ xs ++ (x ∷ []) → last (map at l) ≡ at x
+    last-at xs x e = ap (λ (l : List A). last (map at l)) e ∙ ap last (map-append at xs (x ∷ [])) ∙ last-snoc (map at xs) (at x)
 
-pub link-first : (b : ℕ) → linkAt b 0 ≡ segmentsAt + b
-unfolding linkAt
-link-first b = refl
+    pub link-none : (b : ℕ) → l ≡ [] → linkAt b (last (map at l)) ≡ segmentsAt + b
+    unfolding linkAt
+    link-none b e = ap (linkAt b) (last-none e)
 
-pub link-behind : (b i : ℕ) → 1 ≤ i → linkAt b i ≡ cardAt i 0
-unfolding linkAt
-link-behind b i h = rw (ne-eqb i 0 (omega arith))
+    pub link-last : (b : ℕ) (xs : List A) (x : A) → l ≡ xs ++ (x ∷ []) → 1 ≤ at x → linkAt b (last (map at l)) ≡ cardAt (at x) 0
+    unfolding linkAt
+    link-last b xs x e h = ap (linkAt b) (last-at xs x e) ∙ rw (ne-eqb (at x) 0 (omega arith))

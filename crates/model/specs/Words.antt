@@ -1,6 +1,6 @@
 -- What the accepted calls write, as functions on the words: runs of single writes in the order in which code makes them. Where nothing
 -- else is said they read the words as they were found. That each leaves the words of the changed store is shown in proofs/ (Place, File,
--- Remove, Split, Join).
+-- Remove, Split, Join, and Changes for the last three).
 use Prim.Native.Nat.{ℕ, zero, suc, _+_, _-_, _*_, _/_, _%_}
 use mathlib.Core.List.{List, [], _∷_}
 use mathlib.Core.Bool.{Bool, cond}
@@ -8,9 +8,10 @@ use lib.Dec.{eqb}
 use lib.ListN.{length, getD, set, replicate}
 use lib.Seq.{sets}
 use Rattle.rules.specs.Code.{codeOf}
-use Rattle.rules.specs.Table.{highMaxp, highP, lowMaxp, lowP}
-use Rattle.model.specs.Layout.{directoryAt, segmentsAt, segmentSize, cardWidth, faultWidth, cardsAt, faultsAt, packed, cellAt, cardWord, faultWord}
-use Rattle.model.specs.Meaning.{limitIn, faultLimitIn, bucketWord, serialIn}
+use Rattle.rules.specs.Table.{addressOf, splits, contracts, highMaxp, highP, lowMaxp, lowP}
+use Rattle.model.specs.Lists.{same, keep}
+use Rattle.model.specs.Layout.{directoryAt, segmentsAt, segmentSize, cardWidth, faultWidth, cardsAt, faultsAt, first, last, packed, cellAt, cardWord, faultWord}
+use Rattle.model.specs.Meaning.{limitIn, faultLimitIn, bucketsIn, bucketWord, bucketCells, serialIn}
 
 -- where word k of a card cell stands, and of a fault cell in a store of c cards
 abbrev pub cardAt : ℕ → ℕ → ℕ
@@ -105,6 +106,10 @@ splitWords w =
     let sized = set opened 3 (highMaxp maxp p) in
     set sized 4 (highP maxp p)
 
+-- one bucket more if the load asks for it
+unfoldable pub growWords : List ℕ → List ℕ
+growWords w = cond (splits (getD w 5 0) (bucketsIn w)) (splitWords w) w
+
 -- one bucket less: the last bucket's chain goes behind the last cell k of the chain that it was split from
 unfoldable pub joinWords : List ℕ → ℕ → List ℕ
 joinWords w k =
@@ -116,3 +121,32 @@ joinWords w k =
     let closed = closeWords emptied going in
     let sized = set closed 3 (lowMaxp maxp p) in
     set sized 4 (lowP maxp p)
+
+-- one bucket less if the load asks for it
+unfoldable pub shrinkWords : List ℕ → List ℕ
+shrinkWords w = cond (contracts (getD w 5 0) (bucketsIn w)) (joinWords w (last (bucketCells w (lowP (getD w 3 0) (getD w 4 0))))) w
+
+-- the accepted calls, from the words and the serial alone
+
+-- a serial's bucket and chain; the cells before the card that has the serial, and that card's cell
+unfoldable pub bucketFor : List ℕ → List ℕ → ℕ
+bucketFor w y = addressOf (codeOf y) (getD w 3 0) (getD w 4 0)
+
+unfoldable pub cellsFor : List ℕ → List ℕ → List ℕ
+cellsFor w y = bucketCells w (bucketFor w y)
+
+unfoldable pub beforeIn : List ℕ → List ℕ → List ℕ → List ℕ
+beforeIn w y [] = []
+beforeIn w y (i ∷ l) = cond (same y (serialIn w i)) [] (i ∷ beforeIn w y l)
+
+unfoldable pub foundIn : List ℕ → List ℕ → List ℕ → List ℕ
+foundIn w y l = keep (λ i. same y (serialIn w i)) l
+
+unfoldable pub enterWords : List ℕ → List ℕ → List ℕ
+enterWords w y = growWords (placeWords w (bucketFor w y) (last (cellsFor w y)) y)
+
+unfoldable pub noteWords : List ℕ → List ℕ → ℕ → ℕ → List ℕ
+noteWords w y day code = fileWords w (first (foundIn w y (cellsFor w y))) day code
+
+unfoldable pub withdrawWords : List ℕ → List ℕ → List ℕ
+withdrawWords w y = shrinkWords (removeWords w (bucketFor w y) (last (beforeIn w y (cellsFor w y))) (first (foundIn w y (cellsFor w y))))
