@@ -18,3 +18,6 @@ pub mod HistoryMeans
 pub mod PartsSound
 pub mod SoundParts
 pub mod Decides
+-- What Open writes; and that the contracts of the calls admit one outcome
+pub mod FreshLaws
+pub mod OneOutcome

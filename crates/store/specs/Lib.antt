@@ -4,3 +4,4 @@ pub mod Cells
 pub mod Walk
 pub mod Checker
 pub mod Leaves
+pub mod Fresh
