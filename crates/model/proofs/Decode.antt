@@ -130,7 +130,7 @@ module _ (w : List ℕ) (s : Store) (r : Rep w s) where
   pub cards-at : (b : ℕ) → getD (map (map cardCell) (s .buckets)) b [] ≡ map cardCell (bucket s b)
   cards-at b = List·getD-map (map cardCell) (s .buckets) b []
 
-  read-chain : (b : ℕ) → b < length (s .buckets) → readChain w b ≡ bucket s b
+  pub read-chain : (b : ℕ) → b < length (s .buckets) → readChain w b ≡ bucket s b
   unfolding readChain cardWord cardsAt
   read-chain b h =
       let head : getD w (segmentsAt + b) 0 ≡ headOr 0 (getD (cardChains s) (suc b) []) =

@@ -16,6 +16,7 @@ pub mod Serials
 pub mod Decode
 pub mod Sound
 pub mod Fresh
+pub mod Readings
 -- What soundness means
 pub mod Walks
 pub mod Meaning
@@ -33,3 +34,11 @@ pub mod Demand3
 pub mod Demand2
 pub mod Outcomes
 pub mod Demands
+-- What each change writes
+pub mod Whole
+pub mod Place
+pub mod File
+-- What the definitions compute
+pub mod Computed
+pub mod Give
+pub mod Remove

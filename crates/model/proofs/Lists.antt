@@ -8,7 +8,7 @@ use mathlib.Core.Bool.{Bool, true, false, not, _&&_, cond, false≢true}
 use native.Mathlib.Nat.{zero-add, suc-add}
 use native.Mathlib.Omega.{arith}
 use lib.Dec.{ltb, leb, eqb, eqb·suc-suc}
-use lib.ListN.{length, take, getD, set, length-take, length-map, List·getD-eq-default}
+use lib.ListN.{length, take, drop, getD, set, length-take, length-map, List·getD-eq-default}
 use lib.Seq.{getD-take, getD-set-same, getD-set-other}
 use borrow.Author.Tests.{eq-eqb, ne-eqb, eqb-true, eqb-false, ltb-true, ltb-false, leb-true, le-leb}
 use Rattle.rules.proofs.Tests.{by-cases, not-both, both, all-of}
@@ -107,6 +107,12 @@ module _ {A : Type 0} where
   pub join-append : (a b : List (List A)) → join (a ++ b) ≡ join a ++ join b
   join-append [] b = refl
   join-append (x ∷ a) b = rw (join-append a b, append-assoc)
+
+  -- one list of many, replaced
+  pub join-set : (bs : List (List A)) (a : ℕ) (c : List A) → a < length bs → join (set bs a c) ≡ join (take a bs) ++ (c ++ join (drop (suc a) bs))
+  join-set [] a c h = absurd (omega arith)
+  join-set (b ∷ bs) zero c h = refl
+  join-set (b ∷ bs) (suc a) c h = rw (join-set bs a c (omega arith), append-assoc)
 
   -- where all lists but one keep nothing, the join keeps what that one keeps
   pub keep-join-none : (f : A → Bool) (bs : List (List A)) → ((b : ℕ) → keep f (getD bs b []) ≡ []) → keep f (join bs) ≡ []

@@ -5,6 +5,7 @@ pub mod Serial
 pub mod Model
 pub mod Layout
 pub mod Meaning
+pub mod Words
 pub mod Calls
 pub mod Plain
 pub mod Runs

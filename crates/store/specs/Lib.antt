@@ -4,4 +4,6 @@ pub mod Cells
 pub mod Walk
 pub mod Checker
 pub mod Leaves
+pub mod Plans
+pub mod Search
 pub mod Fresh

@@ -11,7 +11,9 @@ mod fresh;
 mod front;
 mod marks;
 mod parts;
+mod search;
 mod serial;
+mod show;
 mod walks;
 
 // What each of the four calls gives.

@@ -1,0 +1,113 @@
+-- What is read off the words of a store: the header's words, a bucket's word and its chain, and for each card and fault the words of its
+-- cell, all as the store has them.
+use mathlib.Core.Path.{_≡_, refl, sym, ap, _∙_, subst}
+use mathlib.Core.List.{List, [], _∷_, _++_, map}
+use Prim.Native.Nat.{ℕ, suc, _+_, _<_}
+use native.Mathlib.Omega.{arith}
+use lib.Dec.{lit<}
+use lib.ListN.{length, getD}
+use Rattle.model.specs.Model.{Store, Card, cards, held, faultsHeld, bucket, cellsOf, faultCellsOf}
+use Rattle.model.specs.Layout.{Cell, headOr, chained, cardWidth, segmentsAt, cardsAt, cardCell, header, front, first, last, cardWord, readCard, readFault, readChain}
+use Rattle.model.specs.Meaning.{bucketWord, bucketCells, historyCells, serialIn, bytesIn}
+use Rattle.model.proofs.Lists.{map-append, Every, every-parts}
+use Rattle.model.proofs.Chains.{Memory, Stands, Stand, stand-parts, chained-append}
+use Rattle.model.proofs.Part.{cellIn}
+use Rattle.model.proofs.Rep.{Rep, rep-front, size-top}
+use Rattle.model.proofs.Decode.{head-cards, segment-at, cards-at, read-chain}
+
+-- what is read at a cell, of lists that are read cell by cell
+module _ {A : Type 0} (at : A → ℕ) (read : ℕ → A) (numbered : (i : ℕ) → at (read i) ≡ i) where
+  ats : (l : List ℕ) → map at (map read l) ≡ l
+  ats [] = refl
+  ats (i ∷ l) = λ t. numbered i t ∷ ats l t
+
+  back : (l : List ℕ) → Every (λ x. read (at x) ≡ x) (map read l)
+  back [] = tt
+  back (i ∷ l) = (ap read (numbered i), back l)
+
+  read-back : (l : List ℕ) (xs : List A) → map read l ≡ xs → (map at xs ≡ l) × Every (λ x. read (at x) ≡ x) xs
+  read-back l xs e = (ap (map at) (sym e) ∙ ats l, subst (Every (λ x. read (at x) ≡ x)) e (back l))
+
+-- one cell of a chain that stands
+pub stand-at : (width : ℕ) (word : Memory) (xs : List Cell) (x : Cell) (ys : List Cell) → Stand word width (chained 0 (xs ++ (x ∷ ys)))
+    → Stands word width (record { at = x .at; words = headOr 0 ys ∷ x .words })
+stand-at width word xs x ys r = stand-parts width word (chained (x .at) xs) (chained 0 (x ∷ ys)) (rw (← (chained-append 0 xs (x ∷ ys))) r) .1 .0
+
+module _ (w : List ℕ) (s : Store) (r : Rep w s) where
+  -- the header
+  pub maxp-at : getD w 3 0 ≡ s .maxp
+  unfolding front header cardsAt
+  maxp-at = rep-front r 3 (lit< tt)
+
+  pub p-at : getD w 4 0 ≡ s .p
+  unfolding front header cardsAt
+  p-at = rep-front r 4 (lit< tt)
+
+  pub held-at : getD w 5 0 ≡ held s
+  unfolding front header cardsAt
+  held-at = rep-front r 5 (lit< tt)
+
+  pub faults-held-at : getD w 6 0 ≡ faultsHeld s
+  unfolding front header cardsAt
+  faults-held-at = rep-front r 6 (lit< tt)
+
+  pub free-at : getD w 7 0 ≡ first (s .free)
+  unfolding front header cardsAt
+  free-at = rep-front r 7 (lit< tt)
+
+  pub free-faults-at : getD w 8 0 ≡ first (s .freeFaults)
+  unfolding front header cardsAt
+  free-faults-at = rep-front r 8 (lit< tt)
+
+  -- a bucket
+  pub bucket-at : (b : ℕ) → b < length (s .buckets) → bucketWord w b ≡ first (cellsOf (bucket s b))
+  unfolding cardsAt
+  bucket-at b h = rep-front r (segmentsAt + b) (omega (arith, r .fair .number, size-top s (r .fair))) ∙ segment-at s b h ∙ sym (head-cards (bucket s b))
+
+  chain-back : (b : ℕ) → b < length (s .buckets) → (cellsOf (bucket s b) ≡ bucketCells w b) × Every (λ c. readCard w (c .at) ≡ c) (bucket s b)
+  unfolding readCard readChain bucketCells
+  chain-back b h = read-back (λ c. c .at) (readCard w) (λ i. refl) (bucketCells w b) (bucket s b) (read-chain w s r b h)
+
+  pub chain-at : (b : ℕ) → b < length (s .buckets) → bucketCells w b ≡ cellsOf (bucket s b)
+  chain-at b h = sym (chain-back b h .0)
+
+  -- the card x of bucket b
+  module _ (b : ℕ) (xs : List Card) (x : Card) (ys : List Card) (e : bucket s b ≡ xs ++ (x ∷ ys)) where
+    card-stands : Stands (cellIn w cardsAt cardWidth) cardWidth (record { at = cardCell x .at; words = headOr 0 (map cardCell ys) ∷ cardCell x .words })
+    card-stands =
+        stand-at cardWidth (cellIn w cardsAt cardWidth) (map cardCell xs) (cardCell x) (map cardCell ys)
+        (subst (λ (l : List Cell). Stand (cellIn w cardsAt cardWidth) cardWidth (chained 0 l)) (cards-at w s r b ∙ ap (map cardCell) e ∙ map-append cardCell xs (x ∷ ys)) (r .cards (suc b)))
+
+    pub next-at : cardWord w (x .at) 0 ≡ first (cellsOf ys)
+    unfolding cardWord cardCell
+    next-at = card-stands 0 (lit< tt) ∙ sym (head-cards ys)
+
+    pub first-fault-at : cardWord w (x .at) 6 ≡ first (faultCellsOf (x .faults))
+    unfolding cardWord cardCell
+    first-fault-at = card-stands 6 (lit< tt)
+
+    pub last-fault-at : cardWord w (x .at) 7 ≡ last (faultCellsOf (x .faults))
+    unfolding cardWord cardCell
+    last-fault-at = card-stands 7 (lit< tt)
+
+    pub fault-count-at : cardWord w (x .at) 8 ≡ length (faultCellsOf (x .faults))
+    unfolding cardWord cardCell
+    fault-count-at = card-stands 8 (lit< tt)
+
+    pub card-at : b < length (s .buckets) → readCard w (x .at) ≡ x
+    card-at h = every-parts (λ c. readCard w (c .at) ≡ c) xs (x ∷ ys) (subst (Every (λ c. readCard w (c .at) ≡ c)) e (chain-back b h .1)) .1 .0
+
+    pub serial-at : b < length (s .buckets) → serialIn w (x .at) ≡ x .serial
+    unfolding serialIn bytesIn readCard
+    serial-at h = ap (λ (c : Card). c .serial) (card-at h)
+
+    -- its history
+    history-back : b < length (s .buckets) → (faultCellsOf (x .faults) ≡ historyCells w (x .at)) × Every (λ f. readFault w (f .at) ≡ f) (x .faults)
+    unfolding readCard readFault historyCells
+    history-back h = read-back (λ f. f .at) (readFault w) (λ i. refl) (historyCells w (x .at)) (x .faults) (ap (λ (c : Card). c .faults) (card-at h))
+
+    pub history-at : b < length (s .buckets) → historyCells w (x .at) ≡ faultCellsOf (x .faults)
+    history-at h = sym (history-back h .0)
+
+    pub faults-at : b < length (s .buckets) → Every (λ f. readFault w (f .at) ≡ f) (x .faults)
+    faults-at h = history-back h .1
