@@ -28,3 +28,5 @@ pub mod FindLaws
 -- What the contracts admit
 pub mod OneOutcome
 pub mod ShowLaws
+-- What Open writes
+pub mod FreshLaws

@@ -3,8 +3,8 @@
 use mathlib.Core.Path.{_≡_, sym, _∙_}
 use mathlib.Core.List.{List}
 use Prim.Native.Nat.{ℕ}
-use Rattle.model.specs.Calls.{Answer, Outcome, Step}
-use Rattle.store.specs.Leaves.{Gives, Leaves, Does}
+use Rattle.model.specs.Calls.{Answer, Outcome, Step, Opened}
+use Rattle.store.specs.Leaves.{Gives, Leaves, Does, Opens}
 
 -- all that a call gives and leaves
 pub record Left : Type 0 where
@@ -30,3 +30,7 @@ one-outcome o a b p q = λ i.
       room = (p .room-is ∙ sym (q .room-is)) i;
       scratch = (p .scratch-is ∙ sym (q .scratch-is)) i;
     }
+
+-- Open: its number and the words
+pub open-one : {o : Opened} {n m : ℕ} {w v : List ℕ} → Opens o n w → Opens o m v → (n ≡ m) × (w ≡ v)
+open-one p q = (p .number-is ∙ sym (q .number-is), p .words-are ∙ sym (q .words-are))

@@ -6,3 +6,4 @@ pub mod Checker
 pub mod Leaves
 pub mod Plans
 pub mod Search
+pub mod Fresh
