@@ -3,4 +3,5 @@ pub mod Marks
 pub mod Cells
 pub mod Walk
 pub mod Checker
+pub mod Writes
 pub mod Leaves

@@ -11,6 +11,7 @@ mod marks;
 mod parts;
 mod serial;
 mod walks;
+mod writes;
 
 // What each of the four calls gives.
 pub struct Answer {
