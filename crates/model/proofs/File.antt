@@ -30,7 +30,7 @@ use Rattle.model.proofs.Readings.{faults-held-at, free-faults-at, last-
 use Rattle.model.proofs.Look.{address-in}
 use Rattle.model.proofs.Steps.{filed-total, filed-fair}
 use Rattle.model.proofs.Cut.{Present}
-use Rattle.model.proofs.Whole.{Whole, rep-whole, whole-rep, each-apart, front-write, fault-fill, fault-chain, fault-behind, card-word, faults-fit, fronted, segments-kept, historyOf, cards-parted, history-get, history-set, history-below, taken-in, taken-none, taken-apart, taken-rest, taken-next, ends, last-nil, last-snoc}
+use Rattle.model.proofs.Whole.{Whole, rep-whole, whole-rep, each-apart, front-write, fault-fill, fault-chain, fault-behind, card-word, faults-fit, fronted, segments-kept, historyOf, cards-joined, history-get, history-set, history-below, taken-in, taken-none, taken-apart, taken-rest, taken-next, ends, last-nil, last-snoc}
 
 module _ (w : List ℕ) (s : Store) (r : Rep w s) (y : List ℕ) (day code : ℕ) (valid : validFault day code ≡ true) (p : Present y (chainFor s y)) (room : faultsHeld s < s .faultLimit) where
   abbrev a : ℕ
@@ -68,32 +68,32 @@ module _ (w : List ℕ) (s : Store) (r : Rep w s) (y : List ℕ) (day code : ℕ
 
   -- the cards, parted at the card
   cards-is : cards s ≡ left ++ (card ∷ right)
-  cards-is = ap join (sym (set-getD (s .buckets) a [])) ∙ ap (λ (ch : List Card). join (set (s .buckets) a ch)) (p .parts) ∙ cards-parted s a prior card (p .after) below
+  cards-is = ap join (sym (set-getD (s .buckets) a [])) ∙ ap (λ (ch : List Card). join (set (s .buckets) a ch)) (p .parts) ∙ cards-joined s a prior (card ∷ p .after) below
 
   cards-filed : cards (filed s y day code) ≡ left ++ (withFault fault card ∷ right)
   unfolding filed
-  cards-filed = ap (λ (ch : List Card). join (set (s .buckets) a ch)) (p .noted-it fault) ∙ cards-parted s a prior (withFault fault card) (p .after) below
+  cards-filed = ap (λ (ch : List Card). join (set (s .buckets) a ch)) (p .noted-it fault) ∙ cards-joined s a prior (withFault fault card ∷ p .after) below
 
   -- the chains of faults with the new cell taken, and those afterwards
-  abbrev histories : List (List Cell)
-  histories = map historyOf (cards s)
+  abbrev records : List (List Cell)
+  records = map historyOf (cards s)
 
-  faults-filed : (ch : List Cell) → historyOf (withFault fault card) ≡ ch → map (freeCell faultWidth) later ∷ set histories (length left) ch ≡ faultChains (filed s y day code)
+  faults-filed : (ch : List Cell) → historyOf (withFault fault card) ≡ ch → map (freeCell faultWidth) later ∷ set records (length left) ch ≡ faultChains (filed s y day code)
   unfolding filed
   faults-filed ch e =
       ap (λ (l : List (List Cell)). map (freeCell faultWidth) later ∷ l)
-      (ap (set histories (length left)) (sym e) ∙ history-set (cards s) left card right cards-is (historyOf (withFault fault card))
+      (ap (set records (length left)) (sym e) ∙ history-set (cards s) left card right cards-is (historyOf (withFault fault card))
       ∙ sym (map-append historyOf left (withFault fault card ∷ right)) ∙ ap (map historyOf) (sym cards-filed))
 
-  faults-apart : (ch : List Cell) → historyOf (withFault fault card) ≡ ch → Apart (s .faultLimit) (join (map (freeCell faultWidth) later ∷ set histories (length left) ch))
+  faults-apart : (ch : List Cell) → historyOf (withFault fault card) ≡ ch → Apart (s .faultLimit) (join (map (freeCell faultWidth) later ∷ set records (length left) ch))
   unfolding filed
   faults-apart ch e = subst (λ (l : List (List Cell)). Apart (s .faultLimit) (join l)) (sym (faults-filed ch e)) (each-apart (fair .faultCells))
 
   new-in : (1 ≤ new) × (new ≤ s .faultLimit)
-  new-in = taken-in w (faultsAt (s .limit)) faultWidth (s .faultLimit) (s .freeFaults) histories (lit< tt) some (r .fair .faultCells) (r .faults)
+  new-in = taken-in w (faultsAt (s .limit)) faultWidth (s .faultLimit) (s .freeFaults) records (lit< tt) some (r .fair .faultCells) (r .faults)
 
-  new-none : many new (join (map (freeCell faultWidth) later ∷ histories)) ≡ 0
-  new-none = taken-none w (faultsAt (s .limit)) faultWidth (s .faultLimit) (s .freeFaults) histories (lit< tt) some (r .fair .faultCells) (r .faults)
+  new-none : many new (join (map (freeCell faultWidth) later ∷ records)) ≡ 0
+  new-none = taken-none w (faultsAt (s .limit)) faultWidth (s .faultLimit) (s .freeFaults) records (lit< tt) some (r .fair .faultCells) (r .faults)
 
   -- the cell is taken and filled
   taken : List ℕ
@@ -105,15 +105,15 @@ module _ (w : List ℕ) (s : Store) (r : Rep w s) (y : List ℕ) (day code : ℕ
   abbrev fronts : ℕ → List ℕ
   fronts k = fronted (s .limit) (s .faultLimit) (s .maxp) (s .p) (held s) k (first (s .free)) (first later) (directory s) (segments s)
 
-  taken-whole : Whole taken (s .limit) (s .faultLimit) (fronts (faultsHeld s)) (cardChains s) (map (freeCell faultWidth) later ∷ histories)
+  taken-whole : Whole taken (s .limit) (s .faultLimit) (fronts (faultsHeld s)) (cardChains s) (map (freeCell faultWidth) later ∷ records)
   unfolding taken front header cardsAt
   taken-whole =
-      front-write w (s .limit) (s .faultLimit) (front s) (cardChains s) (map (freeCell faultWidth) later ∷ histories)
+      front-write w (s .limit) (s .faultLimit) (front s) (cardChains s) (map (freeCell faultWidth) later ∷ records)
       (fault-chain w (s .limit) (s .faultLimit) (front s) (cardChains s) (faultChains s) (rep-whole r) 0 (map (freeCell faultWidth) later) (omega arith)
-      (taken-apart w (faultsAt (s .limit)) faultWidth (s .faultLimit) (s .freeFaults) histories (lit< tt) some (r .fair .faultCells) (r .faults))
-      (taken-rest w (faultsAt (s .limit)) faultWidth (s .faultLimit) (s .freeFaults) histories (lit< tt) some (r .fair .faultCells) (r .faults))) 8 (first later) (lit< tt)
+      (taken-apart w (faultsAt (s .limit)) faultWidth (s .faultLimit) (s .freeFaults) records (lit< tt) some (r .fair .faultCells) (r .faults))
+      (taken-rest w (faultsAt (s .limit)) faultWidth (s .faultLimit) (s .freeFaults) records (lit< tt) some (r .fair .faultCells) (r .faults))) 8 (first later) (lit< tt)
 
-  filled-whole : Whole filled (s .limit) (s .faultLimit) (fronts (faultsHeld s)) (cardChains s) (map (freeCell faultWidth) later ∷ histories)
+  filled-whole : Whole filled (s .limit) (s .faultLimit) (fronts (faultsHeld s)) (cardChains s) (map (freeCell faultWidth) later ∷ records)
   unfolding filled
   filled-whole = fault-fill taken (s .limit) (s .faultLimit) _ _ _ taken-whole new (0 ∷ day ∷ code ∷ []) (new-in .0) (new-in .1) refl new-none
 
@@ -183,7 +183,7 @@ module _ (w : List ℕ) (s : Store) (r : Rep w s) (y : List ℕ) (day code : ℕ
   linked-behind : (xs : List Fault) (z : Fault) → card .faults ≡ xs ++ (z ∷ []) → (1 ≤ z .at) × Linked (faultAt (s .limit) (z .at) 0)
   unfolding cardCell faultCell
   linked-behind xs z e =
-      let gs = map (freeCell faultWidth) later ∷ histories in
+      let gs = map (freeCell faultWidth) later ∷ records in
       let old : historyOf card ≡ map faultCell xs ++ (faultCell z ∷ []) = ap (map faultCell) e ∙ map-append faultCell xs (z ∷ []) in
       let ch : historyOf (withFault fault card) ≡ map faultCell xs ++ (faultCell z ∷ []) ++ (faultCell fault ∷ []) =
       map-append faultCell (card .faults) (fault ∷ []) ∙ ap (λ (l : List Cell). l ++ (faultCell fault ∷ [])) old in
@@ -260,7 +260,7 @@ module _ (w : List ℕ) (s : Store) (r : Rep w s) (y : List ℕ) (day code : ℕ
 
   next-free : faultWord w new 0 ≡ first later
   unfolding faultWord
-  next-free = rw (limit-at w s r) (taken-next w (faultsAt (s .limit)) faultWidth (s .faultLimit) (s .freeFaults) histories (lit< tt) some (r .fair .faultCells) (r .faults))
+  next-free = rw (limit-at w s r) (taken-next w (faultsAt (s .limit)) faultWidth (s .faultLimit) (s .freeFaults) records (lit< tt) some (r .fair .faultCells) (r .faults))
 
   written : fileWords w (card .at) day code ≡ set counted 6 (faultsHeld s + 1)
   unfolding fileWords taken filled linkFor ended counted

@@ -38,3 +38,7 @@ pub mod Demands
 pub mod Whole
 pub mod Place
 pub mod File
+-- What the definitions compute
+pub mod Computed
+pub mod Give
+pub mod Remove

@@ -103,7 +103,7 @@ past (suc n) (x ∷ xs) zero h = absurd (omega arith)
 past (suc n) (x ∷ xs) (suc i) h = past n xs i (omega arith)
 
 -- a list that is zero from n on is what its first n elements are
-padded : (n : ℕ) (l : List ℕ) → all (eqb 0) (drop n l) ≡ true → (i : ℕ) → getD (take n l) i 0 ≡ getD l i 0
+pub padded : (n : ℕ) (l : List ℕ) → all (eqb 0) (drop n l) ≡ true → (i : ℕ) → getD (take n l) i 0 ≡ getD l i 0
 padded n l e i =
     ⊎-elim (λ (h : i < n). getD-take n l i 0 h)
     (λ (h : n ≤ i). let d : n + (i - n) ≡ i = omega arith in

@@ -280,10 +280,10 @@ module _ (w : List ℕ) (c : ℕ) (free : List Cell) (cs : List Card) where
       let P : List Cell → Type 0 = λ ch. Stand (cellIn w (faultsAt c) faultWidth) faultWidth (chained 0 ch) in
       every-at P (map historyOf cs) [] tt (map-every P historyOf cs e) j
 
--- the cards of a store with one chain replaced, parted at a card of that chain; and the histories parted there
-pub cards-parted : (s : Store) (a : ℕ) (xs : List Card) (x : Card) (ys : List Card) → a < length (s .buckets)
-    → cards (withChain s a (xs ++ (x ∷ ys))) ≡ (join (take a (s .buckets)) ++ xs) ++ (x ∷ (ys ++ join (drop (suc a) (s .buckets))))
-cards-parted s a xs x ys h = join-set (s .buckets) a (xs ++ (x ∷ ys)) h ∙ simp append-assoc
+-- the cards of a store with one chain replaced, parted in that chain; and the histories parted at a card
+pub cards-joined : (s : Store) (a : ℕ) (xs ys : List Card) → a < length (s .buckets)
+    → cards (withChain s a (xs ++ ys)) ≡ (join (take a (s .buckets)) ++ xs) ++ (ys ++ join (drop (suc a) (s .buckets)))
+cards-joined s a xs ys h = join-set (s .buckets) a (xs ++ ys) h ∙ simp append-assoc
 
 module _ (cs left : List Card) (x : Card) (right : List Card) (e : cs ≡ left ++ (x ∷ right)) where
   pub history-get : getD (map historyOf cs) (length left) [] ≡ historyOf x

@@ -1,14 +1,14 @@
 -- What the accepted calls write, as functions on the words: runs of single writes in the order in which code makes them. Where nothing
 -- else is said they read the words as they were found. That each leaves the words of the changed store is shown in proofs/ (Place, File,
 -- Remove, Part, Join).
-use Prim.Native.Nat.{ℕ, _+_}
+use Prim.Native.Nat.{ℕ, zero, suc, _+_, _-_}
 use mathlib.Core.List.{List, [], _∷_}
 use mathlib.Core.Bool.{cond}
 use lib.Dec.{eqb}
-use lib.ListN.{length, getD, set}
+use lib.ListN.{length, getD, set, replicate}
 use lib.Seq.{sets}
 use Rattle.model.specs.Layout.{segmentsAt, cardWidth, faultWidth, cardsAt, faultsAt, packed, cellAt, cardWord, faultWord}
-use Rattle.model.specs.Meaning.{limitIn}
+use Rattle.model.specs.Meaning.{limitIn, faultLimitIn}
 
 -- where word k of a card cell stands, and of a fault cell in a store of c cards
 abbrev pub cardAt : ℕ → ℕ → ℕ
@@ -46,3 +46,28 @@ fileWords w i day code =
     let ended = set linked (cardAt i 7) new in
     let counted = set ended (cardAt i 8) (cardWord w i 8 + 1) in
     set counted 6 (getD w 6 0 + 1)
+
+-- the cells of a history, from cell i on: each zero but for its next word
+unfoldable pub clearWords : ℕ → ℕ → List ℕ → ℕ → List ℕ
+clearWords zero c w i = w
+clearWords (suc fuel) c w i =
+    let rest = clearWords fuel c (set (set w (faultAt c i 1) 0) (faultAt c i 2) 0) (getD w (faultAt c i 0) 0) in
+    cond (eqb i 0) w rest
+
+-- a history given back, in its order, to the front of the free fault cells: its first cell i, its last one j
+unfoldable pub giveWords : List ℕ → ℕ → ℕ → List ℕ
+giveWords w i j =
+    let c = limitIn w in
+    let cleared = clearWords (faultLimitIn w) c w i in
+    let joined = set cleared (faultAt c j 0) (getD w 8 0) in
+    cond (eqb i 0) w (set joined 8 i)
+
+-- the card in cell i, behind cell h of bucket b's chain, taken out, its faults given back, its cell put before the free ones
+unfoldable pub removeWords : List ℕ → ℕ → ℕ → ℕ → List ℕ
+removeWords w b h i =
+    let given = giveWords w (cardWord w i 6) (cardWord w i 7) in
+    let unlinked = set given (linkAt b h) (cardWord w i 0) in
+    let emptied = sets unlinked (cardAt i 0) (getD w 7 0 ∷ replicate (cardWidth - 1) 0) in
+    let freed = set emptied 7 i in
+    let counted = set freed 5 (getD w 5 0 - 1) in
+    set counted 6 (getD w 6 0 - cardWord w i 8)

@@ -15,8 +15,18 @@ pub mod PartLaws
 pub mod PartMeans
 pub mod FrontMeans
 pub mod PartRuns
+-- What a call will scan
+pub mod ScanLaws
 pub mod CellMeans
 pub mod HistoryMeans
 pub mod PartsSound
 pub mod SoundParts
 pub mod Decides
+pub mod AlongLaws
+-- Laws of the search, of the words of a store as they are read, and of what is found there
+pub mod SearchLaws
+pub mod StoredLaws
+pub mod FindLaws
+-- What the contracts admit
+pub mod OneOutcome
+pub mod ShowLaws

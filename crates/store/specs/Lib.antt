@@ -5,3 +5,5 @@ pub mod Walk
 pub mod Checker
 pub mod Writes
 pub mod Leaves
+pub mod Plans
+pub mod Search

@@ -9,7 +9,9 @@ mod cells;
 mod front;
 mod marks;
 mod parts;
+mod search;
 mod serial;
+mod show;
 mod walks;
 mod writes;
 

@@ -1,0 +1,10 @@
+-- Laws that the functions' proofs cite, one theme a file
+pub mod Cursor
+pub mod Numbers
+pub mod Padded
+pub mod Forms
+pub mod Steps
+pub mod Decimals
+pub mod Putting
+pub mod Answers
+pub mod Counting

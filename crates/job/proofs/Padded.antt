@@ -1,0 +1,31 @@
+-- A field copied over sixteen zero bytes is the serial as it travels. Assumes nothing.
+use Prim.Native.Nat.{ℕ, zero, suc, _+_, _≤_, _<_, min}
+use mathlib.Core.Path.{_≡_, refl, sym, ap}
+use mathlib.Core.List.{List, [], _∷_, _++_, append-assoc}
+use native.Mathlib.Numerals.{add-one}
+use native.Mathlib.Omega.{arith}
+use lib.ListN.{length, getD, set, take, drop, replicate}
+use lib.Seq.{drop-cons, take-suc, set-at, length-take-le}
+use Rattle.model.specs.Job.{padded}
+
+-- one byte more is copied
+pub copied : (f out : List ℕ) (i : ℕ) → i < length f → i < length out → set (take i f ++ drop i out) i (getD f i 0) ≡ take (i + 1) f ++ drop (i + 1) out
+copied f out i hf ho =
+    rw (add-one i, drop-cons out i 0 ho, take-suc f i 0 hf, append-assoc (take i f) (getD f i 0 ∷ []) (drop (suc i) out))
+    (set-at (take i f) (getD out i 0) (drop (suc i) out) (getD f i 0) i (length-take-le i f (omega arith)))
+
+-- the first m bytes of a field with zeros behind it
+take-zeros : (m k : ℕ) → m ≤ k → take {A = ℕ} m (replicate k 0) ≡ replicate m 0
+take-zeros zero k h = refl
+take-zeros (suc m) zero h = absurd (omega arith)
+take-zeros (suc m) (suc k) h = ap (λ (l : List ℕ). 0 ∷ l) (take-zeros m k (omega arith))
+
+behind : (f : List ℕ) (n m k : ℕ) → m ≤ k → n ≡ min (length f) m → take n f ++ drop n (replicate m 0) ≡ take m (f ++ replicate k 0)
+behind [] n m k h e = let z : n ≡ 0 = omega arith in rw z (sym (take-zeros m k h))
+behind (x ∷ f) zero m k h e = let z : m ≡ 0 = omega arith in rw z
+behind (x ∷ f) (suc n) zero k h e = absurd (omega arith)
+behind (x ∷ f) (suc n) (suc m) k h e = ap (λ (l : List ℕ). x ∷ l) (behind f n m k (omega arith) (omega arith))
+
+pub padded-is : (f : List ℕ) (n : ℕ) → n ≡ min (length f) 16 → take n f ++ drop n (replicate 16 0) ≡ padded f
+unfolding padded
+padded-is f n e = behind f n 16 16 (omega arith) e

@@ -1,0 +1,42 @@
+-- The text of an answer from its numbers, and what it is to write a text.
+use mathlib.Core.Path.{_≡_}
+use mathlib.Core.List.{List, [], _∷_, _++_}
+use Prim.Native.Nat.{ℕ, _+_, _*_, _≤_}
+use lib.ListN.{length}
+use lib.Seq.{sets}
+use Rattle.model.specs.Job.{decimal, pairText}
+
+-- from `at` on the output has the bytes of the text, all else is as it was, and `end` is the place behind the text
+pub record Puts (out : List ℕ) (at : ℕ) (text : List ℕ) (end : ℕ) (left : List ℕ) : Type 0 where
+  pub out-is : left ≡ sets out at text
+  pub end-is : end ≡ at + length text
+
+-- the digits of a 32-bit number
+pub record Digits (n r : ℕ) : Type 0 where
+  pub is : r ≡ length (decimal n)
+  pub most : r ≤ 10
+
+-- a number with a mark before it: ` n` or `:n`
+unfoldable pub marked : ℕ → ℕ → List ℕ
+marked mark n = mark ∷ decimal n
+
+-- a fault: ` day:code`
+unfoldable pub pairOf : ℕ → ℕ → List ℕ
+pairOf day code = marked 32 day ++ marked 58 code
+
+-- how long a fault's text is, and the texts of `count` faults
+pub record PairLong (day code r : ℕ) : Type 0 where
+  pub is : r ≡ length (pairOf day code)
+  pub most : r ≤ 22
+
+pub record PairsLong (count : ℕ) (room : List ℕ) (r : ℕ) : Type 0 where
+  pub is : r ≡ length (pairText count room)
+  pub most : r ≤ 22 * count
+
+-- number, comparisons, scanned and faults, one space between
+unfoldable pub numbersOf : ℕ → ℕ → ℕ → ℕ → List ℕ
+numbersOf number comparisons scanned faults = decimal number ++ (marked 32 comparisons ++ (marked 32 scanned ++ marked 32 faults))
+
+-- an answer line: the four numbers, the pairs listed, LF
+unfoldable pub answerOf : ℕ → ℕ → ℕ → ℕ → ℕ → List ℕ → List ℕ
+answerOf number comparisons scanned faults count room = numbersOf number comparisons scanned faults ++ (pairText count room ++ (10 ∷ []))

@@ -1,0 +1,194 @@
+// A line taken apart into its fields.
+ghost use mathlib.Core.Path.{_≡_};
+ghost use mathlib.Core.Bool.{true};
+ghost use Prim.Native.Nat.{_+_, _-_, _*_, _≤_, _<_, min};
+ghost use mathlib.Core.List.{[], _∷_};
+ghost use Rattle.model.specs.Lists.{between, all};
+ghost use Rattle.model.specs.Job.{bad, two, four, fromFields, fields, isNumber, valueFrom, padded, lineOf};
+ghost use Rattle.job.specs.Told.{Holds, Told};
+use super::lines::field_end;
+
+// What a line tells: its kind (0 not well formed, 1 enter, 2 withdraw, 3 file, 4 show), its serial field as
+// sixteen bytes and its length, and the numbers of a filing. What its kind has not is 0.
+pub struct Parsed {
+    pub kind: u32,
+    pub serial: [u8; 16],
+    pub len: usize,
+    pub day: u32,
+    pub code: u32,
+}
+
+// The longest line without its LF, the longest serial and the most digits of a number.
+const LONGEST: usize = 64;
+
+const SERIAL: usize = 16;
+
+const DIGITS: usize = 9;
+
+fn is_digit(b: u8) -> bool
+    ensures { λ r. ⌜ r ≡ between 48 57 b ⌝ }
+{
+    48 <= b && b <= 57
+}
+
+fn all_digits(field: &[u8]) -> bool
+    ensures { λ r. ⌜ r ≡ all (between 48 57) (now (field .entry)) ⌝ }
+{
+    let mut i = 0;
+    while i < field.len() {
+        if !is_digit(field[i]) {
+            return false;
+        }
+        i += 1;
+    }
+    true
+}
+
+// Whether a field is 1 to 9 digits.
+pub fn is_number(field: &[u8]) -> bool
+    ensures { λ r. ⌜ r ≡ isNumber (now (field .entry)) ⌝ }
+{
+    if field.len() < 1 {
+        return false;
+    }
+    if DIGITS < field.len() {
+        return false;
+    }
+    all_digits(field)
+}
+
+// The value v with one digit more.
+fn with_digit(v: u32, digit: u8) -> u32
+    requires { ⌜ (v < 100000000) × (48 ≤ digit) × (digit ≤ 57) ⌝ }
+    ensures { λ r. ⌜ r ≡ 10 * v + (digit - 48) ⌝ }
+{
+    10 * v + (digit - 48) as u32
+}
+
+// The value of a number field, below 10 ^ 9.
+pub fn number(field: &[u8]) -> u32
+    requires { ⌜ isNumber (now field) ≡ true ⌝ }
+    ensures { λ r. ⌜ r ≡ valueFrom 0 (now (field .entry)) ⌝ }
+{
+    let mut v: u32 = 0;
+    let mut i = 0;
+    while i < field.len() {
+        v = with_digit(v, field[i]);
+        i += 1;
+    }
+    v
+}
+
+fn lesser(a: usize, b: usize) -> usize
+    ensures { λ r. ⌜ r ≡ min a b ⌝ }
+{
+    if a < b { a } else { b }
+}
+
+// The field as a serial travels: sixteen bytes, the unused ones zero. Of a longer field the first sixteen.
+pub fn sixteen(field: &[u8]) -> [u8; 16]
+    ensures { λ r. ⌜ r ≡ padded (now (field .entry)) ⌝ }
+{
+    let mut bytes = [0u8; 16];
+    let end = lesser(field.len(), SERIAL);
+    let mut i = 0;
+    while i < end {
+        bytes[i] = field[i];
+        i += 1;
+    }
+    bytes
+}
+
+// A line that is not well formed.
+fn bad_line() -> Parsed
+    ensures { λ r. ⌜ Told bad r ⌝ }
+{
+    let none = [0u8; 16];
+    Parsed {
+        kind: 0,
+        serial: none,
+        len: 0,
+        day: 0,
+        code: 0,
+    }
+}
+
+// A line of this kind, with its serial field and the numbers of a filing.
+fn filled(kind: u32, serial: &[u8], day: u32, code: u32) -> Parsed
+    ensures { λ r. ⌜ Holds kind (now (serial .entry)) day code r ⌝ }
+{
+    let bytes = sixteen(serial);
+    Parsed {
+        kind,
+        serial: bytes,
+        len: serial.len(),
+        day,
+        code,
+    }
+}
+
+// A line of two fields: E, S or W and a serial.
+fn serial_line(op: u8, serial: &[u8]) -> Parsed
+    ensures { λ r. ⌜ Told (two (op ∷ []) (now (serial .entry))) r ⌝ }
+{
+    match op {
+        b'E' => filled(1, serial, 0, 0),
+        b'W' => filled(2, serial, 0, 0),
+        b'S' => filled(4, serial, 0, 0),
+        _ => bad_line(),
+    }
+}
+
+// A line of four fields: F, a serial, a day and a code.
+fn fault_line(op: u8, serial: &[u8], day: &[u8], code: &[u8]) -> Parsed
+    ensures { λ r. ⌜ Told (four (op ∷ []) (now (serial .entry)) (now (day .entry)) (now (code .entry))) r ⌝ }
+{
+    if op != b'F' {
+        return bad_line();
+    }
+    if !is_number(day) {
+        return bad_line();
+    }
+    if !is_number(code) {
+        return bad_line();
+    }
+    filled(3, serial, number(day), number(code))
+}
+
+// A line whose serial is not its last field, with what stands behind the serial: two fields more, or it is bad.
+fn longer_line(op: u8, serial: &[u8], rest: &[u8]) -> Parsed
+    ensures { λ r. ⌜ Told (fromFields ((op ∷ []) ∷ now (serial .entry) ∷ fields 32 (now (rest .entry)))) r ⌝ }
+{
+    let gap = field_end(rest, 0);
+    if rest.len() <= gap {
+        return bad_line();
+    }
+    let next = gap + 1;
+    let end = field_end(rest, next);
+    if end < rest.len() {
+        return bad_line();
+    }
+    fault_line(op, serial, &rest[..gap], &rest[next..])
+}
+
+// What a line without its LF tells.
+pub fn parse(line: &[u8]) -> Parsed
+    ensures { λ r. ⌜ Told (lineOf (now (line .entry))) r ⌝ }
+{
+    if LONGEST < line.len() {
+        return bad_line();
+    }
+    let first = field_end(line, 0);
+    if line.len() <= first {
+        return bad_line();
+    }
+    if first != 1 {
+        return bad_line();
+    }
+    let end = field_end(line, 2);
+    if line.len() <= end {
+        return serial_line(line[0], &line[2..]);
+    }
+    let next = end + 1;
+    longer_line(line[0], &line[2..end], &line[next..])
+}

@@ -1,0 +1,159 @@
+-- What a reader of words that stand for a store (`Rep w s`) finds there: the header (`rep-read`), every bucket's chain to its end
+-- (`bucket-ends`, `bucket-cells`), and each card of a chain with its cell's words and its history (`Stored`, by `stored`).
+use mathlib.Core.Path.{_≡_, refl, sym, ap, subst, _∙_}
+use mathlib.Core.Bool.{true}
+use mathlib.Core.List.{List, [], _∷_, _++_, map}
+use Prim.Native.Nat.{ℕ, suc, _+_, _≤_, _<_}
+use native.Mathlib.Omega.{arith}
+use lib.Dec.{eqb, lit<}
+use lib.ListN.{length, getD, length-map}
+use Rattle.rules.proofs.Tests.{all-of}
+use Rattle.model.specs.Lists.{between, all, join, total}
+use Rattle.model.specs.Model.{Fault, Card, Store, cards, bucket, cellsOf, faultCellsOf}
+use Rattle.model.specs.Layout.{Cell, atsOf, headOr, chained, cardWidth, faultWidth, segmentsAt, cardsAt, faultsAt, lengthFor, first, last, follow, cardCell, faultCell, cardChains, faultChains, header, front, cardWord, faultWord, readCard, readChain, sound, decode}
+use Rattle.model.specs.Meaning.{Leads, nextCard, nextFault}
+use Rattle.model.proofs.Lists.{between-is, map-append, Every, every-parts, every-join}
+use Rattle.model.proofs.Sums.{bit, bit-same, total-append, total-one}
+use Rattle.model.proofs.Each.{many, Each}
+use Rattle.model.proofs.Chains.{Memory, Stand, stand-parts, chained-append}
+use Rattle.model.proofs.Part.{cellIn, Held, held-follow}
+use Rattle.model.proofs.Fair.{inCell, limits-of, card-cells}
+use Rattle.model.proofs.Rep.{Rep, rep-front, size-top}
+use Rattle.model.proofs.Decode.{head-cards, head-faults, segment-at, limit-at, fault-limit-at, cards-at, read-chain}
+use Rattle.model.proofs.Sound.{sound-is}
+use Rattle.store.specs.Cells.{Sized, Read}
+use Rattle.store.specs.Search.{Ends, faultsFrom}
+
+-- chains of any cells
+
+ats-inside : (n : ℕ) (cs : List Cell) → ((i : ℕ) → 0 < many i cs → (1 ≤ i) × (i ≤ n)) → all (between 1 n) (atsOf cs) ≡ true
+ats-inside n [] h = refl
+ats-inside n (c ∷ cs) h =
+    all-of (between-is 1 n (c .at) .1 (h (c .at) (omega (arith, bit-same (c .at) (c .at) refl)))) (ats-inside n cs (λ i p. h i (omega arith)))
+
+stand-leads : (word : Memory) (width : ℕ) → 0 < width → (cs : List Cell) → Stand word width (chained 0 cs) → Leads (λ i. word i 0) (headOr 0 cs) (atsOf cs)
+stand-leads word width z [] q = refl
+stand-leads word width z (c ∷ cs) q = (refl, subst (λ (h : ℕ). Leads (λ i. word i 0) h (atsOf cs)) (sym (q .0 0 z)) (stand-leads word width z cs (q .1)))
+
+-- each chain of a part ends
+held-ends : (w : List ℕ) (base width n : ℕ) (chains : List (List Cell)) → 0 < width → Each n (join chains) → Held w base width chains
+    → (j : ℕ) → Ends n (λ i. cellIn w base width i 0) (headOr 0 (getD chains j []))
+held-ends w base width n chains z e r j =
+    let f = held-follow w base width n chains z e r j in
+    record {
+      leads = rw f (stand-leads (cellIn w base width) width z (getD chains j []) (r j));
+      inside = rw f (ats-inside n (getD chains j []) (λ i h. e .inside i (omega (arith, total-one (λ c. bit (eqb i (c .at))) chains j))));
+    }
+
+ats-cards : (cs : List Card) → atsOf (map cardCell cs) ≡ cellsOf cs
+unfolding cardCell
+ats-cards [] = refl
+ats-cards (c ∷ cs) = ap (λ (l : List ℕ). c .at ∷ l) (ats-cards cs)
+
+-- a card of a chain, with the cards behind it, as its cell stands in the words
+pub record Stored (w : List ℕ) (s : Store) (c : Card) (after : List Card) : Type 0 where
+  pub from-one : 1 ≤ c .at
+  pub in-limit : c .at ≤ s .limit
+  pub next-word : cardWord w (c .at) 0 ≡ first (cellsOf after)
+  pub first-word : cardWord w (c .at) 6 ≡ first (faultCellsOf (c .faults))
+  pub last-word : cardWord w (c .at) 7 ≡ last (faultCellsOf (c .faults))
+  pub count-word : cardWord w (c .at) 8 ≡ length (c .faults)
+  pub history : faultsFrom (s .faultLimit) w (cardWord w (c .at) 6) ≡ c .faults
+  pub history-ends : Ends (s .faultLimit) (nextFault w) (cardWord w (c .at) 6)
+
+module _ {w : List ℕ} {s : Store} (r : Rep w s) where
+  -- the header
+
+  pub rep-sized : Sized w (s .limit) (s .faultLimit)
+  unfolding lengthFor faultsAt cardsAt
+  rep-sized =
+      let l = limits-of (s .limit) (s .faultLimit) (r .fair .limits) in
+      record { some = l .some; most = l .most; someFaults = l .someFaults; mostFaults = l .mostFaults; long = r .long; limit = limit-at w s r; faultLimit = fault-limit-at w s r }
+
+  pub rep-read : Read w (s .limit) (s .faultLimit) (s .maxp) (s .p)
+  unfolding front header cardsAt
+  rep-read = record { sized = rep-sized; maxp = rep-front r 3 (lit< tt); state = rep-front r 4 (lit< tt) }
+
+  -- buckets
+
+  module _ (b : ℕ) (h : b < length (s .buckets)) where
+    bucket-head : getD w (segmentsAt + b) 0 ≡ headOr 0 (getD (cardChains s) (suc b) [])
+    unfolding cardsAt
+    bucket-head =
+        rep-front r (segmentsAt + b) (omega (arith, r .fair .number, size-top s (r .fair))) ∙ segment-at s b h ∙ ap (headOr 0) (sym (cards-at w s r b))
+
+    pub bucket-ends : Ends (s .limit) (nextCard w) (getD w (segmentsAt + b) 0)
+    unfolding cardWord
+    bucket-ends = rw bucket-head (held-ends w cardsAt cardWidth (s .limit) (cardChains s) (lit< tt) (r .fair .cells) (r .cards) (suc b))
+
+    pub bucket-cells : follow (s .limit) (nextCard w) (getD w (segmentsAt + b) 0) ≡ cellsOf (bucket s b)
+    unfolding cardWord
+    bucket-cells =
+        rw bucket-head
+        (held-follow w cardsAt cardWidth (s .limit) (cardChains s) (lit< tt) (r .fair .cells) (r .cards) (suc b) ∙ ap atsOf (cards-at w s r b) ∙ ats-cards (bucket s b))
+
+  -- the cells of a bucket stand as a chain
+  pub bucket-stand : (b : ℕ) → Stand (cellIn w cardsAt cardWidth) cardWidth (chained 0 (map cardCell (bucket s b)))
+  bucket-stand b = subst (λ (l : List Cell). Stand (cellIn w cardsAt cardWidth) cardWidth (chained 0 l)) (cards-at w s r b) (r .cards (suc b))
+
+  -- histories
+
+  filed-ends : Every (λ c. Ends (s .faultLimit) (nextFault w) (first (faultCellsOf (c .faults)))) (cards s)
+  unfolding faultWord
+  filed-ends =
+      go (cards s)
+      (λ j. subst (λ (l : ℕ). Ends (s .faultLimit) (λ i. cellIn w (faultsAt l) faultWidth i 0) (headOr 0 (getD (faultChains s) (suc j) []))) (sym (limit-at w s r))
+      (held-ends w (faultsAt (s .limit)) faultWidth (s .faultLimit) (faultChains s) (lit< tt) (r .fair .faultCells) (r .faults) (suc j)))
+    where
+      go : (cs : List Card) → ((j : ℕ) → Ends (s .faultLimit) (nextFault w) (headOr 0 (getD (map (λ c. map faultCell (c .faults)) cs) j [])))
+          → Every (λ c. Ends (s .faultLimit) (nextFault w) (first (faultCellsOf (c .faults)))) cs
+      go [] f = tt
+      go (c ∷ cs) f = (rw (head-faults (c .faults)) (f 0), go cs (λ j. f (suc j)))
+
+  filed-read : (b : ℕ) → b < length (s .buckets) → Every (λ c. faultsFrom (s .faultLimit) w (cardWord w (c .at) 6) ≡ c .faults) (bucket s b)
+  unfolding readChain readCard faultsFrom
+  filed-read b h =
+      subst (Every (λ (c : Card). faultsFrom (s .faultLimit) w (cardWord w (c .at) 6) ≡ c .faults)) (read-chain w s r b h)
+      (go (follow (getD w 1 0) (nextCard w) (getD w (segmentsAt + b) 0)))
+    where
+      go : (l : List ℕ) → Every (λ (c : Card). faultsFrom (s .faultLimit) w (cardWord w (c .at) 6) ≡ c .faults) (map (readCard w) l)
+      go [] = tt
+      go (i ∷ l) = (rw (fault-limit-at w s r), go l)
+
+  -- a card with the cards before it and behind it
+  pub stored : (b : ℕ) → b < length (s .buckets) → (front : List Card) (c : Card) (after : List Card) → bucket s b ≡ front ++ (c ∷ after) → Stored w s c after
+  unfolding cardCell cardWord
+  stored b h front c after e =
+      let q = stand-parts cardWidth (cellIn w cardsAt cardWidth) (chained (c .at) (map cardCell front)) (chained 0 (map cardCell (c ∷ after)))
+      (subst (Stand (cellIn w cardsAt cardWidth) cardWidth) (ap (λ (l : List Card). chained 0 (map cardCell l)) e ∙ ap (chained 0) (map-append cardCell front (c ∷ after)) ∙ chained-append 0 (map cardCell front) (map cardCell (c ∷ after))) (bucket-stand b)) .1 .0 in
+      let f = one (λ c. Ends (s .faultLimit) (nextFault w) (first (faultCellsOf (c .faults)))) (every-join _ (s .buckets) filed-ends b) in
+      let g = one (λ c. faultsFrom (s .faultLimit) w (cardWord w (c .at) 6) ≡ c .faults) (filed-read b h) in
+      let i = inside in
+      record {
+        from-one = i .0;
+        in-limit = i .1;
+        next-word = q 0 (lit< tt) ∙ sym (head-cards after);
+        first-word = q 6 (lit< tt);
+        last-word = q 7 (lit< tt);
+        count-word = q 8 (lit< tt) ∙ length-map (c .faults) (λ (f : Fault). f .at);
+        history = g;
+        history-ends = rw (q 6 (lit< tt)) f;
+      }
+    where
+      one : (P : Card → Type 0) → Every P (bucket s b) → P c
+      one P p = every-parts P front (c ∷ after) (subst (Every P) e p) .1 .0
+
+      inside : (1 ≤ c .at) × (c .at ≤ s .limit)
+      inside =
+          r .fair .cells .inside (c .at)
+          (omega (arith, card-cells s (c .at), total-one (inCell (c .at)) (s .buckets) b, ap (total (inCell (c .at))) e, total-append (inCell (c .at)) front (c ∷ after), bit-same (c .at) (c .at) refl))
+
+-- the header of sound words
+pub sound-read : (w : List ℕ) → sound w ≡ true → Read w (getD w 1 0) (getD w 2 0) (getD w 3 0) (getD w 4 0)
+unfolding decode
+sound-read w e = rep-read (sound-is w e .0)
+
+-- the limits and the state of the store read from words are those of its header
+pub read-store : {w : List ℕ} {c f m p : ℕ} → Read w c f m p → (decode w .limit ≡ c) × (decode w .faultLimit ≡ f) × (decode w .maxp ≡ m) × (decode w .p ≡ p)
+unfolding decode
+read-store h = (h .sized .limit, h .sized .faultLimit, h .maxp, h .state)

@@ -1,0 +1,114 @@
+// The search of a bucket's chain for a serial: it counts the cards that it compares.
+ghost use mathlib.Core.Path.{_≡_};
+ghost use mathlib.Core.Bool.{true};
+ghost use Prim.Native.Nat.{_≤_, _<_};
+ghost use lib.ListN.{take};
+ghost use Rattle.model.specs.Serial.{validSerial};
+ghost use Rattle.model.specs.Layout.{decode, sound};
+ghost use Rattle.model.specs.Meaning.{nextCard};
+ghost use Rattle.store.specs.Cells.{Sized, Read};
+ghost use Rattle.store.specs.Search.{Ends, hasKey, searched, Finds};
+use crate::cells;
+use crate::cells::Header;
+use crate::serial;
+
+// What a search gives: the place is the card's, from 1, if held, else the chain's length; the cell is 0 if not held; prev is the cell
+// before it, 0 for none, or the chain's last if not held.
+pub struct Found {
+    pub held: bool,
+    pub place: u32,
+    pub cell: u32,
+    pub prev: u32,
+}
+
+// The same with the bucket whose chain was searched.
+pub struct Spot {
+    pub bucket: u32,
+    pub held: bool,
+    pub place: u32,
+    pub cell: u32,
+    pub prev: u32,
+}
+
+// Whether card i has a serial of this length and these four words: lengths and all bytes are compared, never codes.
+fn has_key(w: &[u32], c: u32, f: u32, i: u32, len: u32, key: [u32; 4]) -> bool
+    requires { ⌜ Sized (now w) c f × (1 ≤ i) × (i ≤ c) ⌝ }
+    ensures { λ r. ⌜ r ≡ hasKey (now (w .entry)) i len key ⌝ }
+{
+    if cells::card_word(w, c, f, i, 1) != len {
+        return false;
+    }
+    let mut k: usize = 0;
+    while k < 4 {
+        if cells::card_word(w, c, f, i, k + 2) != key[k] {
+            return false;
+        }
+        k += 1;
+    }
+    true
+}
+
+// Goes along the chain from cell `first` until a card has the serial, and counts the cards compared.
+pub fn search(w: &[u32], c: u32, f: u32, first: u32, len: u32, key: [u32; 4]) -> Found
+    requires { ⌜ Sized (now w) c f × Ends c (nextCard (now w)) first ⌝ }
+    ensures { λ r. ⌜ r ≡ searched c (now (w .entry)) first len key ⌝ }
+{
+    let mut i = first;
+    let mut n: u32 = 0;
+    let mut prev: u32 = 0;
+    while i != 0 {
+        n += 1;
+        if has_key(w, c, f, i, len, key) {
+            return Found {
+                held: true,
+                place: n,
+                cell: i,
+                prev,
+            };
+        }
+        prev = i;
+        i = cells::card_word(w, c, f, i, 0);
+    }
+    Found {
+        held: false,
+        place: n,
+        cell: 0,
+        prev,
+    }
+}
+
+// The header of a store known to be sound, read once.
+pub fn header_of(w: &[u32]) -> Header
+    requires { ⌜ sound (now w) ≡ true ⌝ }
+    ensures { λ r. ⌜ Read (now (w .entry)) (r .cards) (r .faults) (r .maxp) (r .p) ⌝ }
+{
+    let cards = cells::word(w, 1);
+    let faults = cells::word(w, 2);
+    let maxp = cells::word(w, 3);
+    let p = cells::word(w, 4);
+    Header {
+        cards,
+        faults,
+        maxp,
+        p,
+    }
+}
+
+// Where the card of a serial stands in a sound store: its bucket by the serial's code, and the search of that bucket's chain.
+pub fn find(w: &[u32], h: Header, serial: [u8; 16], len: usize) -> Spot
+    requires { ⌜ (sound (now w) ≡ true) × Read (now w) (h .cards) (h .faults) (h .maxp) (h .p) × (validSerial serial len ≡ true) ⌝ }
+    ensures { λ r. ⌜ Finds (decode (now (w .entry))) (take len serial) r ⌝ }
+{
+    let code = rules::serial_code(serial, len);
+    let b = rules::reader_address(code, h.maxp, h.p);
+    let first = cells::word(w, cells::SEGMENTS + b as usize);
+    let key = serial::pack(serial);
+    let r = search(w, h.cards, h.faults, first, len as u32, key);
+    Spot {
+        bucket: b,
+        held: r.held,
+        place: r.place,
+        cell: r.cell,
+        prev: r.prev,
+    }
+}
