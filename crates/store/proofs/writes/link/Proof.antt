@@ -1,36 +1,29 @@
+-- `writes::link` meets its contract: the bucket's word where i is 0, else the next word of cell i.
+use mathlib.Core.Path.{ap, _∙_}
+use Prim.Native.Nat.{ℕ}
 use borrow.Author.Needs.{needs}
+use lib.ListN.{set}
+use Rattle.store.proofs.WriteLaws.{link-bucket, link-card}
 use Rattle.store.proofs.writes.link.Statement.{statement}
 use Rattle.store.proofs.writes.link.Tie as tie
-use Rattle.store.proofs.writes.link.Reads as reads
-use Rattle.store.proofs.writes.link.Lts as lts
-use Rattle.store.proofs.writes.put_bucket.Reads as put-bucket-reads
-use Rattle.store.proofs.writes.put_card.Reads as put-card-reads
 
--- src/writes.rt:117:9
-put-bucket-requires : tie.Need-put-bucket-requires
-put-bucket-requires c κs = search needs
-
--- src/writes.rt:119:9
-put-card-requires : tie.Need-put-card-requires
-put-card-requires c κs = search needs
-
--- src/writes.rt:112:1
-same-length : tie.Need-same-length
-same-length c = search needs
-
--- src/writes.rt:112:1
 returns : tie.Need-returns
-returns c = ?
+returns c =
+    let a = c .before .before .before .before .before .before .args in
+    c .before .before .put-bucket .ensures ∙ ap (λ (m : ℕ). set (a .w .now) m (a .v)) (link-bucket (a .b) (c .before .before .before .before .if1 .taken))
 
--- src/writes.rt:112:1
-same-length-2 : tie.Need-same-length-2
-same-length-2 c = search needs
-
--- src/writes.rt:112:1
 returns-2 : tie.Need-returns-2
-returns-2 c = ?
+returns-2 c =
+    let a = c .before .before .before .before .before .before .args in
+    c .before .before .put-card .ensures ∙ ap (λ (m : ℕ). set (a .w .now) m (a .v)) (link-card (a .b) (c .before .before .before .before .if1 .left))
 
 pub link-spec : {M : Type 1} → statement M
 link-spec =
     tie.close
-    (tie.spec put-bucket-requires put-card-requires same-length returns same-length-2 returns-2)
+    (tie.spec
+    (λ c κs. search needs)
+    (λ c κs. search needs)
+    (λ c. search needs)
+    returns
+    (λ c. search needs)
+    returns-2)
