@@ -3,6 +3,8 @@ pub mod Rows
 pub mod SerialLaws
 pub mod CellLaws
 pub mod FrontLaws
+-- Laws of what the writers did
+pub mod WriteLaws
 -- Laws of marks and of walks, that know nothing of cards
 pub mod MarkLaws
 pub mod WalkLaws

@@ -15,6 +15,7 @@ mod search;
 mod serial;
 mod show;
 mod walks;
+mod writes;
 
 // What each of the four calls gives.
 pub struct Answer {
