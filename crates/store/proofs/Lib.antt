@@ -29,6 +29,7 @@ pub mod StoredLaws
 pub mod FindLaws
 -- What the contracts admit
 pub mod OneOutcome
+pub mod ProgramDemands
 pub mod ShowLaws
 -- What Open writes
 pub mod FreshLaws

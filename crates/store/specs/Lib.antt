@@ -6,5 +6,6 @@ pub mod Checker
 pub mod Writes
 pub mod Leaves
 pub mod Plans
+pub mod Sequences
 pub mod Search
 pub mod Fresh
