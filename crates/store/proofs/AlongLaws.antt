@@ -1,6 +1,6 @@
 -- A loop that goes along a chain that ends (`Ends`). What it keeps is one record, `Along`: the cells that are left lead on from here, and what
 -- they give is what the whole chain gives. Each turn is `along-next`, or `along-stop` where the loop returns; `along-end` is the end.
-use mathlib.Core.Path.{_≡_, refl, sym, _∙_}
+use mathlib.Core.Path.{_≡_, sym, _∙_}
 use mathlib.Core.Bool.{true}
 use mathlib.Core.List.{List, [], _∷_}
 use Prim.Native.Nat.{ℕ, zero, suc, _+_, _≤_, _<_}
@@ -27,10 +27,10 @@ unfolding follow
 follow-length zero next h = omega arith
 follow-length (suc limit) next h = by-cases (eqb h 0) (λ e. rw e (omega arith)) (λ e. rw e (omega (arith, follow-length limit next (next h))))
 
-pub along-start : {A : Type 0} {limit : ℕ} {next : ℕ → ℕ} {first : ℕ} (left : List ℕ → A) → Ends limit next first
-    → Along limit next first (left (follow limit next first)) first 0 left
-along-start {limit = limit} {next = next} {first = first} left e =
-    record { rest = follow limit next first; leads = e .leads; inside = e .inside; count = omega arith; same = refl }
+pub along-start : {A : Type 0} {limit : ℕ} {next : ℕ → ℕ} {first : ℕ} {answer : A} (left : List ℕ → A) → Ends limit next first → left (follow limit next first) ≡ answer
+    → Along limit next first answer first 0 left
+along-start {limit = limit} {next = next} {first = first} left e s =
+    record { rest = follow limit next first; leads = e .leads; inside = e .inside; count = omega arith; same = s }
 
 module _ {A : Type 0} {limit : ℕ} {next : ℕ → ℕ} {first : ℕ} {answer : A} {i n : ℕ} {left : List ℕ → A} (a : Along limit next first answer i n left) where
   pub along-end : i ≡ 0 → left [] ≡ answer

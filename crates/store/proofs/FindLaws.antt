@@ -16,7 +16,7 @@ use Rattle.model.specs.Lists.{all, same}
 use Rattle.model.specs.Serial.{serialOk, validSerial}
 use Rattle.model.specs.Model.{Card, Store, bucket, addressIn, chainFor, is, found, before, comparisons, cellsOf, histories, historyIn}
 use Rattle.model.specs.Layout.{headOr, chained, cardWidth, segmentsAt, cardsAt, first, last, packed, cardCell, cardWord, goodCard, sound, decode}
-use Rattle.model.specs.Meaning.{nextCard}
+use Rattle.model.specs.Meaning.{nextCard, nextFault}
 use Rattle.model.proofs.Lists.{same-refl, same-eq, length-none, Every}
 use Rattle.model.proofs.Chains.{Stands, Stand}
 use Rattle.model.proofs.Part.{cellIn}
@@ -27,11 +27,11 @@ use Rattle.model.proofs.Look.{look-once, address-in}
 use Rattle.model.proofs.Cut.{Absent, Present, absent, present}
 use Rattle.model.proofs.Cases.{valid-serial}
 use Rattle.store.specs.Cells.{Read, packedAll}
-use Rattle.store.specs.Search.{Ends, hasKey, searchIn, searched, Finds}
+use Rattle.store.specs.Search.{Ends, hasKey, searchIn, searched, Finds, faultsFrom}
 use Rattle.store.specs.declared.search.Found.{Found}
 use Rattle.store.specs.declared.search.Spot.{Spot}
 use Rattle.store.proofs.SearchLaws.{search-none, search-hit, search-on}
-use Rattle.store.proofs.StoredLaws.{Stored, stored, bucket-ends, bucket-cells, bucket-stand}
+use Rattle.store.proofs.StoredLaws.{Stored, stored, bucket-ends, bucket-cells, bucket-stand, read-store}
 
 -- serials by their keys
 
@@ -242,3 +242,22 @@ module _ (w : List ℕ) (e : sound w ≡ true) {c f m p : ℕ} (h : Read w c f m
     unfolding decode
     home-finds v r er =
         search-finds (sound-is w e .0) bytes n v b r at (er ∙ ap (λ (c : ℕ). searched c w (getD w (segmentsAt + b) 0) n (packedAll bytes)) (sym (h .sized .limit)))
+
+-- the cell of a card that is held, and the history that its words lead to, by the limits that the code read
+pub record HeldCell (w : List ℕ) (y : List ℕ) (c f i : ℕ) : Type 0 where
+  pub from-one : 1 ≤ i
+  pub in-limit : i ≤ c
+  pub count-word : cardWord w i 8 ≡ length (historyIn (decode w) y)
+  pub history : faultsFrom f w (cardWord w i 6) ≡ historyIn (decode w) y
+  pub history-ends : Ends f (nextFault w) (cardWord w i 6)
+
+pub held-cell : {w : List ℕ} {c f m p : ℕ} {y : List ℕ} {o : Spot} → Read w c f m p → IsHeld w (decode w) y o → HeldCell w y c f (o .cell)
+held-cell {w} h k =
+    let l = read-store h in
+    record {
+      from-one = rw (k .cell-is) (k .stored .from-one);
+      in-limit = rw (k .cell-is, ← (l .0)) (k .stored .in-limit);
+      count-word = rw (k .cell-is, k .history-is) (k .stored .count-word);
+      history = rw (k .cell-is, ← (l .1), k .history-is) (k .stored .history);
+      history-ends = rw (k .cell-is, ← (l .1)) (k .stored .history-ends);
+    }

@@ -25,3 +25,4 @@ pub mod AlongLaws
 pub mod SearchLaws
 pub mod StoredLaws
 pub mod FindLaws
+pub mod ShowLaws

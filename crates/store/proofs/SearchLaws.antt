@@ -54,4 +54,4 @@ module _ (w : List ℕ) (len : ℕ) (key : List ℕ) where
 
   pub search-start : {c h : ℕ} → Ends c (nextCard w) h → Along c (nextCard w) h (searched c w h len key) h 0 (λ l. searchIn w len key l 0 0)
   unfolding searched
-  search-start e = along-start (λ l. searchIn w len key l 0 0) e
+  search-start e = along-start (λ l. searchIn w len key l 0 0) e refl

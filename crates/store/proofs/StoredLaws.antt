@@ -152,3 +152,8 @@ module _ {w : List ℕ} {s : Store} (r : Rep w s) where
 pub sound-read : (w : List ℕ) → sound w ≡ true → Read w (getD w 1 0) (getD w 2 0) (getD w 3 0) (getD w 4 0)
 unfolding decode
 sound-read w e = rep-read (sound-is w e .0)
+
+-- the limits and the state of the store read from words are those of its header
+pub read-store : {w : List ℕ} {c f m p : ℕ} → Read w c f m p → (decode w .limit ≡ c) × (decode w .faultLimit ≡ f) × (decode w .maxp ≡ m) × (decode w .p ≡ p)
+unfolding decode
+read-store h = (h .sized .limit, h .sized .faultLimit, h .maxp, h .state)

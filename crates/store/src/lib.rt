@@ -11,6 +11,7 @@ mod marks;
 mod parts;
 mod search;
 mod serial;
+mod show;
 mod walks;
 
 // What each of the four calls gives.
