@@ -26,3 +26,5 @@ pub mod SearchLaws
 pub mod StoredLaws
 pub mod FindLaws
 pub mod ShowLaws
+-- The plans of calls
+pub mod PlanLaws

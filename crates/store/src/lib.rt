@@ -9,6 +9,7 @@ mod cells;
 mod front;
 mod marks;
 mod parts;
+pub mod plans;
 mod search;
 mod serial;
 mod show;
