@@ -3,6 +3,8 @@ pub mod Rows
 pub mod SerialLaws
 pub mod CellLaws
 pub mod FrontLaws
+-- Laws of what the writers did
+pub mod WriteLaws
 -- Laws of marks and of walks, that know nothing of cards
 pub mod MarkLaws
 pub mod WalkLaws
@@ -25,6 +27,10 @@ pub mod AlongLaws
 pub mod SearchLaws
 pub mod StoredLaws
 pub mod FindLaws
+-- What the contracts admit
+pub mod OneOutcome
 pub mod ShowLaws
 -- The plans of calls
 pub mod PlanLaws
+-- What Open writes
+pub mod FreshLaws

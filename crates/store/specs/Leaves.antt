@@ -3,7 +3,7 @@ use mathlib.Core.Path.{_≡_}
 use mathlib.Core.List.{List}
 use Prim.Native.Nat.{ℕ}
 use Rattle.model.specs.Layout.{encode}
-use Rattle.model.specs.Calls.{Answer, Outcome, Step}
+use Rattle.model.specs.Calls.{Answer, Outcome, Step, Opened}
 
 -- number, comparisons, cards scanned and faults are those of an answer
 pub record Gives (a : Answer) (number comparisons scanned faults : ℕ) : Type 0 where
@@ -24,3 +24,8 @@ pub record Does (t : Step) (number comparisons scanned faults : ℕ) (words room
   pub answer : Gives (t .answer) number comparisons scanned faults
   pub words-are : words ≡ encode (t .store)
   pub room-is : room ≡ t .room
+
+-- Open: the number, and the words afterwards
+pub record Opens (o : Opened) (number : ℕ) (words : List ℕ) : Type 0 where
+  pub number-is : number ≡ o .number
+  pub words-are : words ≡ o .words

@@ -24,7 +24,7 @@ const SEGMENT: u32 = 16;
 const SEGMENT_COUNT: u32 = 16;
 
 // The fewest buckets, and the fewest cards a bucket above that.
-const LEAST: u32 = 16;
+pub const LEAST: u32 = 16;
 
 const LOWER: u64 = 2;
 

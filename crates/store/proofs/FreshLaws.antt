@@ -1,0 +1,199 @@
+-- Laws of a fresh store's words. A list is written from the front (`all-filled`, `copy-more`, `all-copied`); parts that are lent come
+-- back one behind another (`Laid`, `lay`), and so do the cells of a part (`cell-laid`); free cells one behind another are the part that
+-- `encode` writes, and all parts together are the encoding of a fresh store (`fresh-words`).
+use mathlib.Core.Path.{_≡_, refl, sym, ap, _∙_, subst}
+use mathlib.Core.Logic.{⊎-elim}
+use mathlib.Core.Bool.{Bool, true, cond}
+use mathlib.Core.List.{List, [], _∷_, _++_, map, append-nil, append-assoc}
+use Prim.Native.Nat.{ℕ, zero, suc, _+_, _-_, _*_, _≤_, _<_}
+use native.Mathlib.Nat.{mul-le-mul-left}
+use native.Mathlib.Omega.{arith}
+use native.Mathlib.Numerals.{add-one}
+use borrow.Author.Tests.{eq-eqb, ne-eqb, lt-ltb, le-ltb}
+use borrow.Rule.Slice.PartMut.{midOf, postOf, putMid, mid-len, same-len-mid}
+use lib.Dec.{ltb}
+use lib.ListN.{length, getD, set, take, drop, replicate, drop-of-length-le, length-append, length-replicate}
+use lib.Seq.{take-all, take-at, length-take-le}
+use Rattle.rules.specs.Table.{least, top}
+use Rattle.rules.proofs.Tests.{eq?}
+use Rattle.model.specs.Lists.{join, from}
+use Rattle.model.specs.Model.{Card, Store, fresh}
+use Rattle.model.specs.Layout.{Cell, format, directoryAt, segmentsAt, segmentSize, limitsOk, cardWidth, faultWidth, freeCell, cardCell, faultCell, chained, headOr, wordsOf, part, cardChains, faultChains, cardsAt, faultsAt, lengthFor, header, directory, segments, front, encode}
+use Rattle.model.proofs.Fair.{limits-of}
+use Rattle.store.specs.Fresh.{behind, leading, cellsTo}
+
+-- a list filled to its end
+pub all-filled : (d : List ℕ) (n : ℕ) → n ≡ length d → replicate n 0 ++ drop n d ≡ replicate (length d) 0
+all-filled d n e = rw (e, drop-of-length-le d {i = length d} (omega arith)) (append-nil _)
+
+-- one word more of s is copied to d
+copy-suc : (s d : List ℕ) (i : ℕ) → i < length s → i < length d → set (take i s ++ drop i d) i (getD s i 0) ≡ take (suc i) s ++ drop (suc i) d
+copy-suc [] d i h l = absurd (omega arith)
+copy-suc (x ∷ s) [] i h l = absurd (omega arith)
+copy-suc (x ∷ s) (y ∷ d) zero h l = refl
+copy-suc (x ∷ s) (y ∷ d) (suc i) h l = ap (λ (t : List ℕ). x ∷ t) (copy-suc s d i (omega arith) (omega arith))
+
+pub copy-more : (s d : List ℕ) (i : ℕ) → i < length s → i < length d → set (take i s ++ drop i d) i (getD s i 0) ≡ take (i + 1) s ++ drop (i + 1) d
+copy-more s d i h l = rw add-one (copy-suc s d i h l)
+
+pub all-copied : (s d : List ℕ) (n : ℕ) → length s ≤ n → length d ≤ n → take n s ++ drop n d ≡ s
+all-copied s d n h l = rw (take-all n s h, drop-of-length-le d l) (append-nil s)
+
+-- there are n words, and those before e are x
+pub record Laid (w : List ℕ) (n e : ℕ) (x : List ℕ) : Type 0 where
+  pub long : length w ≡ n
+  pub front : take e w ≡ x
+
+pub none-laid : (w : List ℕ) (n : ℕ) → length w ≡ n → Laid w n 0 []
+none-laid w n e = record { long = e; front = refl }
+
+-- how long the part from a to e is
+pub mid-laid : {w x : List ℕ} {n : ℕ} (a e k : ℕ) → Laid w n a x → e ≤ n → k ≡ e - a → length (midOf a k w) ≡ e - a
+mid-laid {w} a e k r b z = ap (λ (m : ℕ). length (midOf a m w)) z ∙ mid-len a e w (omega (arith, r .long))
+
+-- the part from a to e comes back as q, behind what stands before it
+pub lay : {w x : List ℕ} {n : ℕ} (a e k : ℕ) → Laid w n a x → (p q : List ℕ) → p ≡ q → a ≤ e → e ≤ n → k ≡ e - a → length q ≡ e - a → Laid (putMid a k w p) n e (x ++ q)
+lay {w} {x} {n} a e k r p q g h b z l = record {
+  long = same-len-mid a k w p (ap length g ∙ l ∙ sym (mid-laid a e k r b z)) ∙ r .long;
+  front =
+      ap (take e) (sym (append-assoc (take a w) p (postOf a k w)))
+      ∙ take-at (take a w ++ p) (postOf a k w) e (length-append (take a w) p ∙ omega (arith, ap length g, length-take-le a w (omega (arith, r .long))))
+      ∙ (λ i. r .front i ++ g i);
+}
+
+pub laid-whole : {w x : List ℕ} {n e : ℕ} → Laid w n e x → e ≡ n → w ≡ x
+laid-whole {w} {x} {n} {e} r z = sym (take-all e w (omega (arith, r .long))) ∙ r .front
+
+-- one word in front of zeros
+pub lead-set : (n v : ℕ) → 0 < n → set (replicate n 0) 0 v ≡ leading n v
+unfolding leading
+lead-set zero v h = absurd (omega arith)
+lead-set (suc n) v h = let e : suc n - 1 ≡ n = omega arith in rw e
+
+pub length-lead : (n v : ℕ) → 0 < n → length (leading n v) ≡ n
+unfolding leading
+length-lead n v h = omega (arith, length-replicate {A = ℕ} (n - 1) 0)
+
+-- one cell more
+module _ (f : ℕ → List ℕ) where
+  join-snoc : (a i : ℕ) → join (map f (from a (suc i))) ≡ join (map f (from a i)) ++ f (a + i)
+  join-snoc a zero = let e : a + 0 ≡ a = omega arith in rw e (append-nil (f a))
+  join-snoc a (suc i) =
+      let e : suc a + i ≡ a + suc i = omega arith in
+      ap (λ (r : List ℕ). f a ++ r) (join-snoc (suc a) i ∙ ap (λ (m : ℕ). join (map f (from (suc a) i)) ++ f m) e)
+      ∙ sym (append-assoc (f a) (join (map f (from (suc a) i))) (f (a + suc i)))
+
+join-length : (width : ℕ) (f : ℕ → List ℕ) (a n : ℕ) → ((i : ℕ) → length (f i) ≡ width) → length (join (map f (from a n))) ≡ width * n
+join-length width f a zero h = omega arith
+join-length width f a (suc n) h = length-append (f a) (join (map f (from (suc a) n))) ∙ omega (arith, h a, join-length width f (suc a) n h)
+
+pub cells-none : (width n : ℕ) → cellsTo width n 0 ≡ []
+unfolding cellsTo
+cells-none width n = refl
+
+pub cells-more : (width n i : ℕ) → cellsTo width n (i + 1) ≡ cellsTo width n i ++ leading width (behind n (i + 1))
+unfolding cellsTo
+cells-more width n i =
+    let e : 1 + i ≡ i + 1 = omega arith in
+    ap (λ (m : ℕ). join (map (λ k. leading width (behind n k)) (from 1 m))) (add-one i)
+    ∙ join-snoc (λ k. leading width (behind n k)) 1 i ∙ ap (λ (m : ℕ). cellsTo width n i ++ leading width (behind n m)) e
+
+-- cell i + 1 of n ends within the part
+pub cell-end : (width n i : ℕ) → i < n → width * i + width ≤ width * n
+cell-end width n i h = let r : width * (i + 1) ≤ width * n = mul-le-mul-left width (omega arith) in omega arith
+
+-- a cell that comes back behind the first i cells
+pub cell-laid : {w : List ℕ} {long at : ℕ} (width n i : ℕ) → Laid w long at (cellsTo width n i) → 0 < width → at + width ≤ long → (p : List ℕ) (next : ℕ)
+    → next ≡ behind n (i + 1) → p ≡ leading (length (midOf at (at + width - at) w)) next → Laid (putMid at (at + width - at) w p) long (at + width) (cellsTo width n (i + 1))
+cell-laid {w} {long} {at} width n i r z h p next b e =
+    let l : length (midOf at (at + width - at) w) ≡ width = mid-len at (at + width) w (omega (arith, r .long)) ∙ omega arith in
+    subst (Laid (putMid at (at + width - at) w p) long (at + width)) (sym (cells-more width n i))
+    (lay at (at + width) (at + width - at) r p (leading width (behind n (i + 1))) (e ∙ (λ k. leading (l k) (b k))) (omega arith) h refl
+    (length-lead width (behind n (i + 1)) z ∙ omega arith))
+
+-- words 0 to 15
+pub header-fresh : (c f : ℕ) → limitsOk c f ≡ true
+    → header (fresh c f) ≡ format ∷ c ∷ f ∷ least ∷ 0 ∷ 0 ∷ 0 ∷ 1 ∷ 1 ∷ directoryAt ∷ segmentsAt ∷ cardsAt ∷ faultsAt c ∷ lengthFor c f ∷ 0 ∷ 0 ∷ []
+unfolding header fresh
+header-fresh c f t =
+    let l = limits-of c f t in
+    λ k. format ∷ c ∷ f ∷ least ∷ 0 ∷ 0 ∷ 0 ∷ first-of c (l .some) k ∷ first-of f (l .someFaults) k ∷ directoryAt ∷ segmentsAt ∷ cardsAt ∷ faultsAt c ∷ lengthFor c f ∷ 0 ∷ 0 ∷ []
+  where
+    first-of : (n : ℕ) → 1 ≤ n → getD (from 1 n) 0 0 ≡ 1
+    first-of zero h = absurd (omega arith)
+    first-of (suc n) h = refl
+
+pub header-length : (s : Store) → length (header s) ≡ directoryAt
+unfolding header
+header-length s = refl
+
+-- words 16 to 31, and words 32 to 287
+pub directory-fresh : (c f : ℕ) → leading segmentSize segmentsAt ≡ directory (fresh c f)
+unfolding leading directory fresh
+directory-fresh c f = refl
+
+pub directory-length : (s : Store) → length (directory s) ≡ segmentSize
+unfolding directory
+directory-length s = refl
+
+pub segments-fresh : (c f n : ℕ) → n ≡ top → replicate n 0 ≡ segments (fresh c f)
+unfolding segments fresh
+segments-fresh c f n e = ap (λ (m : ℕ). replicate m 0) e
+
+pub head-length : (s : Store) → length (header s ++ directory s) ≡ segmentsAt
+head-length s = length-append (header s) (directory s) ∙ omega (arith, header-length s, directory-length s)
+
+pub segments-length : (c f : ℕ) → length (segments (fresh c f)) ≡ top
+segments-length c f = ap length (sym (segments-fresh c f top refl)) ∙ length-replicate {A = ℕ} top 0
+
+-- cell i of the free cells a to n, in a chain and behind it other cells
+words-at : (width n a m i : ℕ) (xs : List Cell) → a + m ≡ n + 1 → a ≤ i → i ≤ n
+    → wordsOf (chained 0 (map (freeCell width) (from a m)) ++ xs) i ≡ leading width (behind n i)
+unfolding freeCell leading behind
+words-at width n a zero i xs e h l = absurd (omega arith)
+words-at width n a (suc m) i xs e h l =
+    ⊎-elim (λ (q : a ≡ i). ap pick (eq-eqb a i q) ∙ ap (λ (x : ℕ). x ∷ replicate (width - 1) 0) (next-is m q e))
+    (λ (d : a ≡ i → ⊥). ap pick (ne-eqb a i d) ∙ words-at width n (suc a) m i xs (omega arith) (omega arith) l) (eq? a i)
+  where
+    pick : Bool → List ℕ
+    pick t = cond t (headOr 0 (map (freeCell width) (from (suc a) m)) ∷ replicate (width - 1) 0) (wordsOf (chained 0 (map (freeCell width) (from (suc a) m)) ++ xs) i)
+
+    next-is : (m : ℕ) → a ≡ i → a + suc m ≡ n + 1 → headOr 0 (map (freeCell width) (from (suc a) m)) ≡ cond (ltb i n) (i + 1) 0
+    next-is zero q g = ap (λ (t : Bool). cond t (i + 1) 0) (sym (le-ltb i n (omega arith)))
+    next-is (suc m) q g =
+        let z : suc a ≡ i + 1 = omega arith in
+        z ∙ ap (λ (t : Bool). cond t (i + 1) 0) (sym (lt-ltb i n (omega arith)))
+
+-- two functions that agree on the numbers from a on
+map-same : (f g : ℕ → List ℕ) (a n : ℕ) → ((i : ℕ) → a ≤ i → i < a + n → f i ≡ g i) → map f (from a n) ≡ map g (from a n)
+map-same f g a zero h = refl
+map-same f g a (suc n) h = (λ k. h a (omega arith) (omega arith) k ∷ map-same f g (suc a) n (λ i p q. h i (omega arith) (omega arith)) k)
+
+-- the part whose cells are all free, in its first chain
+cells-part : (width n : ℕ) (rest : List (List Cell)) → cellsTo width n n ≡ part (map (freeCell width) (from 1 n) ∷ rest) n
+unfolding cellsTo part
+cells-part width n rest =
+    ap join
+    (map-same (λ i. leading width (behind n i)) (wordsOf (chained 0 (map (freeCell width) (from 1 n)) ++ join (map (chained 0) rest))) 1 n
+    (λ i p q. sym (words-at width n 1 n i (join (map (chained 0) rest)) (omega arith) p (omega arith))))
+
+card-cells : (c f : ℕ) → cellsTo cardWidth c c ≡ part (cardChains (fresh c f)) c
+unfolding fresh
+card-cells c f = cells-part cardWidth c (map (map cardCell) (fresh c f .buckets))
+
+fault-cells : (c f : ℕ) → cellsTo faultWidth f f ≡ part (faultChains (fresh c f)) f
+unfolding fresh
+fault-cells c f = cells-part faultWidth f (map (λ (x : Card). map faultCell (x .faults)) (join (fresh c f .buckets)))
+
+pub cells-length : (width n i : ℕ) → 0 < width → length (cellsTo width n i) ≡ width * i
+unfolding cellsTo
+cells-length width n i h = join-length width (λ k. leading width (behind n k)) 1 i (λ k. length-lead width (behind n k) h)
+
+-- the parts one behind another are the encoding of a fresh store
+pub fresh-words : (c f : ℕ)
+    → (((header (fresh c f) ++ directory (fresh c f)) ++ segments (fresh c f)) ++ cellsTo cardWidth c c) ++ cellsTo faultWidth f f ≡ encode (fresh c f)
+unfolding encode front fresh
+fresh-words c f =
+    let s = fresh c f in
+    append-assoc ((header s ++ directory s) ++ segments s) (cellsTo cardWidth c c) (cellsTo faultWidth f f)
+    ∙ (λ k. append-assoc (header s) (directory s) (segments s) k ++ (card-cells c f k ++ fault-cells c f k))

@@ -1,0 +1,114 @@
+// A fresh store, written part by part: each part of the words is lent to a writer that knows that part alone.
+ghost use mathlib.Core.Path.{_≡_};
+ghost use mathlib.Core.Bool.{true};
+ghost use mathlib.Core.List.{_++_};
+ghost use Prim.Native.Nat.{ℕ, _*_, _≤_, _<_};
+ghost use lib.ListN.{length, replicate};
+ghost use Rattle.model.specs.Model.{fresh};
+ghost use Rattle.model.specs.Layout.{segmentsAt, header, directory, limitsOk, lengthFor, encode};
+ghost use Rattle.store.specs.Fresh.{behind, leading, cellsTo};
+use crate::cells;
+use crate::front;
+
+// Words 0 to 15 of a fresh store.
+fn fresh_header(c: u32, f: u32) -> [u32; 16]
+    requires { ⌜ limitsOk c f ≡ true ⌝ }
+    ensures { λ r. ⌜ r ≡ header (fresh c f) ⌝ }
+{
+    let at = front::faults_at(c);
+    let end = front::length_for(c, f);
+    [
+        front::FORMAT,
+        c,
+        f,
+        front::LEAST,
+        0,
+        0,
+        0,
+        1,
+        1,
+        cells::DIRECTORY as u32,
+        cells::SEGMENTS as u32,
+        cells::CARDS as u32,
+        at as u32,
+        end as u32,
+        0,
+        0,
+    ]
+}
+
+// Sixteen words, written whole.
+fn put_row(part: &mut [u32], row: [u32; 16])
+    requires { ⌜ length (now part) ≡ 16 ⌝ }
+    ensures { λ _. ⌜ now (part .exit) ≡ row ⌝ }
+{
+    let mut i: usize = 0;
+    while i < 16 {
+        part[i] = row[i];
+        i += 1;
+    }
+}
+
+// All words zero.
+fn clear(part: &mut [u32])
+    ensures { λ _. ⌜ now (part .exit) ≡ replicate (length (now (part .entry))) 0 ⌝ }
+{
+    let mut i: usize = 0;
+    while i < part.len() {
+        part[i] = 0;
+        i += 1;
+    }
+}
+
+// One word, and zeros behind it: a free cell, and the directory of a single segment.
+fn put_first(part: &mut [u32], first: u32)
+    requires { ⌜ 0 < length (now part) ⌝ }
+    ensures { λ _. ⌜ now (part .exit) ≡ leading (length (now (part .entry))) first ⌝ }
+{
+    clear(part);
+    part[0] = first;
+}
+
+// The cell behind cell i of n, 0 behind the last.
+fn next_of(i: u32, n: u32) -> u32
+    ensures { λ r. ⌜ r ≡ behind n i ⌝ }
+{
+    if i < n { i + 1 } else { 0 }
+}
+
+// Free cells of one width, chained 1, 2, 3 to the last.
+fn fill_cells(part: &mut [u32], width: usize, n: u32)
+    requires { ⌜ (0 < width) × (length (now part) ≡ width * n) ⌝ }
+    ensures { λ _. ⌜ now (part .exit) ≡ cellsTo width n n ⌝ }
+{
+    let mut i: u32 = 0;
+    let mut at: usize = 0;
+    while i < n {
+        let end = at + width;
+        i += 1;
+        put_first(&mut part[at..end], next_of(i, n));
+        at = end;
+    }
+}
+
+// Header and directory: the first segment is in use, and no other.
+fn fill_head(part: &mut [u32], c: u32, f: u32)
+    requires { ⌜ (limitsOk c f ≡ true) × (length (now part) ≡ segmentsAt) ⌝ }
+    ensures { λ _. ⌜ now (part .exit) ≡ header (fresh c f) ++ directory (fresh c f) ⌝ }
+{
+    let row = fresh_header(c, f);
+    put_row(&mut part[0..cells::DIRECTORY], row);
+    put_first(&mut part[cells::DIRECTORY..], cells::SEGMENTS as u32);
+}
+
+// All words of a fresh store. Its parts are lent on one after the other, from the offsets of the layout.
+pub fn fill(words: &mut [u32], c: u32, f: u32)
+    requires { ⌜ (limitsOk c f ≡ true) × (length (now words) ≡ lengthFor c f) ⌝ }
+    ensures { λ _. ⌜ now (words .exit) ≡ encode (fresh c f) ⌝ }
+{
+    let at = front::faults_at(c);
+    fill_head(&mut words[0..cells::SEGMENTS], c, f);
+    clear(&mut words[cells::SEGMENTS..cells::CARDS]);
+    fill_cells(&mut words[cells::CARDS..at], cells::CARD, c);
+    fill_cells(&mut words[at..], cells::FAULT, f);
+}

@@ -1,0 +1,182 @@
+// The writers: the segment, card and fault parts of a store's words are lent on separately to be written. A narrow writer sees its part
+// alone; what it did is said of the whole words by the function that lends the part.
+ghost use mathlib.Core.Path.{_≡_};
+ghost use mathlib.Core.Bool.{true, cond};
+ghost use Prim.Native.Nat.{_+_, _-_, _*_, _≤_, _<_};
+ghost use lib.Dec.{eqb};
+ghost use lib.ListN.{length, set, take};
+ghost use lib.Seq.{sets};
+ghost use Rattle.rules.specs.Table.{top};
+ghost use Rattle.model.specs.Layout.{segmentsAt, cardWidth, faultWidth};
+ghost use Rattle.model.specs.Serial.{validSerial};
+ghost use Rattle.model.specs.Words.{cardAt, faultAt, linkAt, placeWords, fileWords};
+ghost use Rattle.store.specs.Writes.{MayPlace, MayFile};
+use crate::cells;
+use crate::front;
+use crate::serial;
+
+// The word of bucket b, in the segment part.
+fn set_bucket(segments: &mut [u32], b: u32, v: u32)
+    requires { ⌜ b < length (now segments) ⌝ }
+    ensures { λ _. ⌜ now (segments .exit) ≡ set (now (segments .entry)) b v ⌝ }
+{
+    segments[b as usize] = v;
+}
+
+// Words written one behind another, from place `at` on.
+fn write(part: &mut [u32], at: usize, words: &[u32])
+    requires { ⌜ at + length (now words) ≤ length (now part) ⌝ }
+    ensures { λ _. ⌜ now (part .exit) ≡ sets (now (part .entry)) at (now (words .entry)) ⌝ }
+{
+    let mut k: usize = 0;
+    while k < words.len() {
+        part[at + k] = words[k];
+        k += 1;
+    }
+}
+
+// Word k of card cell i, in the card part.
+fn set_card(cards: &mut [u32], i: u32, k: usize, v: u32)
+    requires { ⌜ (1 ≤ i) × (cardWidth * i ≤ length (now cards)) × (k < cardWidth) ⌝ }
+    ensures { λ _. ⌜ now (cards .exit) ≡ set (now (cards .entry)) (cardWidth * (i - 1) + k) v ⌝ }
+{
+    cards[cells::CARD * ((i - 1) as usize) + k] = v;
+}
+
+// The whole of card cell i.
+fn fill_card(cards: &mut [u32], i: u32, words: [u32; 9])
+    requires { ⌜ (1 ≤ i) × (cardWidth * i ≤ length (now cards)) ⌝ }
+    ensures { λ _. ⌜ now (cards .exit) ≡ sets (now (cards .entry)) (cardWidth * (i - 1)) words ⌝ }
+{
+    write(cards, cells::CARD * ((i - 1) as usize), &words);
+}
+
+// Word k of fault cell i, in the fault part.
+fn set_fault(faults: &mut [u32], i: u32, k: usize, v: u32)
+    requires { ⌜ (1 ≤ i) × (faultWidth * i ≤ length (now faults)) × (k < faultWidth) ⌝ }
+    ensures { λ _. ⌜ now (faults .exit) ≡ set (now (faults .entry)) (faultWidth * (i - 1) + k) v ⌝ }
+{
+    faults[cells::FAULT * ((i - 1) as usize) + k] = v;
+}
+
+// The whole of fault cell i.
+fn fill_fault(faults: &mut [u32], i: u32, words: [u32; 3])
+    requires { ⌜ (1 ≤ i) × (faultWidth * i ≤ length (now faults)) ⌝ }
+    ensures { λ _. ⌜ now (faults .exit) ≡ sets (now (faults .entry)) (faultWidth * (i - 1)) words ⌝ }
+{
+    write(faults, cells::FAULT * ((i - 1) as usize), &words);
+}
+
+// A word of the header.
+pub fn put_word(w: &mut [u32], at: usize, v: u32)
+    requires { ⌜ at < length (now w) ⌝ }
+    ensures { λ _. ⌜ now (w .exit) ≡ set (now (w .entry)) at v ⌝ }
+{
+    w[at] = v;
+}
+
+// The same of the whole words: each lends its part.
+pub fn put_bucket(w: &mut [u32], b: u32, v: u32)
+    requires { ⌜ (segmentsAt + top ≤ length (now w)) × (b < top) ⌝ }
+    ensures { λ _. ⌜ now (w .exit) ≡ set (now (w .entry)) (segmentsAt + b) v ⌝ }
+{
+    set_bucket(&mut w[cells::SEGMENTS..cells::CARDS], b, v);
+}
+
+pub fn put_card(w: &mut [u32], c: u32, i: u32, k: usize, v: u32)
+    requires { ⌜ (segmentsAt + top + cardWidth * c ≤ length (now w)) × (1 ≤ i) × (i ≤ c) × (k < cardWidth) ⌝ }
+    ensures { λ _. ⌜ now (w .exit) ≡ set (now (w .entry)) (cardAt i k) v ⌝ }
+{
+    let e = front::faults_at(c);
+    set_card(&mut w[cells::CARDS..e], i, k, v);
+}
+
+pub fn put_card_cell(w: &mut [u32], c: u32, i: u32, words: [u32; 9])
+    requires { ⌜ (segmentsAt + top + cardWidth * c ≤ length (now w)) × (1 ≤ i) × (i ≤ c) ⌝ }
+    ensures { λ _. ⌜ now (w .exit) ≡ sets (now (w .entry)) (cardAt i 0) words ⌝ }
+{
+    let e = front::faults_at(c);
+    fill_card(&mut w[cells::CARDS..e], i, words);
+}
+
+pub fn put_fault(w: &mut [u32], c: u32, i: u32, k: usize, v: u32)
+    requires { ⌜ (segmentsAt + top + cardWidth * c + faultWidth * i ≤ length (now w)) × (1 ≤ i) × (k < faultWidth) ⌝ }
+    ensures { λ _. ⌜ now (w .exit) ≡ set (now (w .entry)) (faultAt c i k) v ⌝ }
+{
+    let e = front::faults_at(c);
+    set_fault(&mut w[e..], i, k, v);
+}
+
+pub fn put_fault_cell(w: &mut [u32], c: u32, i: u32, words: [u32; 3])
+    requires { ⌜ (segmentsAt + top + cardWidth * c + faultWidth * i ≤ length (now w)) × (1 ≤ i) ⌝ }
+    ensures { λ _. ⌜ now (w .exit) ≡ sets (now (w .entry)) (faultAt c i 0) words ⌝ }
+{
+    let e = front::faults_at(c);
+    fill_fault(&mut w[e..], i, words);
+}
+
+// Which cell stands behind cell i of bucket b's chain: the next word of i, or the bucket's word where i is 0.
+pub fn link(w: &mut [u32], c: u32, b: u32, i: u32, v: u32)
+    requires { ⌜ (segmentsAt + top + cardWidth * c ≤ length (now w)) × (b < top) × (i ≤ c) ⌝ }
+    ensures { λ _. ⌜ now (w .exit) ≡ set (now (w .entry)) (linkAt b i) v ⌝ }
+{
+    if i == 0 {
+        put_bucket(w, b, v);
+    } else {
+        put_card(w, c, i, 0, v);
+    }
+}
+
+// A new card takes the first free cell, behind cell `last` of bucket b's chain or as its first.
+pub fn place(w: &mut [u32], c: u32, f: u32, b: u32, last: u32, serial: [u8; 16], len: usize)
+    requires { ⌜ MayPlace (now w) c f b last × (validSerial serial len ≡ true) ⌝ }
+    ensures { λ _. ⌜ now (w .exit) ≡ placeWords (now (w .entry)) b last (take len serial) ⌝ }
+{
+    let new = cells::word(w, 7);
+    let next = cells::card_word(w, c, f, new, 0);
+    let held = cells::word(w, 5) + 1;
+    let n = len as u32;
+    let key = serial::pack(serial);
+    put_word(w, 7, next);
+    put_card_cell(w, c, new, [0, n, key[0], key[1], key[2], key[3], 0, 0, 0]);
+    link(w, c, b, last, new);
+    put_word(w, 5, held);
+}
+
+// Which fault stands behind fault `last` of the card in cell i: the next word of `last`, or the card's first-fault word where it is 0.
+fn link_fault(w: &mut [u32], c: u32, i: u32, last: u32, v: u32)
+    requires { ⌜ (segmentsAt + top + cardWidth * c + faultWidth * last ≤ length (now w)) × (1 ≤ i) × (i ≤ c) ⌝ }
+    ensures { λ _. ⌜ now (w .exit) ≡ set (now (w .entry)) (cond (eqb last 0) (cardAt i 6) (faultAt c last 0)) v ⌝ }
+{
+    if last == 0 {
+        put_card(w, c, i, 6, v);
+    } else {
+        put_fault(w, c, last, 0, v);
+    }
+}
+
+// A card's last fault and fault count, and the faults held.
+fn put_counts(w: &mut [u32], c: u32, i: u32, last: u32, count: u32, held: u32)
+    requires { ⌜ (segmentsAt + top + cardWidth * c ≤ length (now w)) × (1 ≤ i) × (i ≤ c) ⌝ }
+    ensures { λ _. ⌜ now (w .exit) ≡ set (set (set (now (w .entry)) (cardAt i 7) last) (cardAt i 8) count) 6 held ⌝ }
+{
+    put_card(w, c, i, 7, last);
+    put_card(w, c, i, 8, count);
+    put_word(w, 6, held);
+}
+
+// A fault takes the first free fault cell, behind the last fault of the card in the cell.
+pub fn file_at(w: &mut [u32], c: u32, f: u32, cell: u32, day: u32, code: u32)
+    requires { ⌜ MayFile (now w) c f cell ⌝ }
+    ensures { λ _. ⌜ now (w .exit) ≡ fileWords (now (w .entry)) cell day code ⌝ }
+{
+    let new = cells::word(w, 8);
+    let next = cells::fault_word(w, c, f, new, 0);
+    let last = cells::card_word(w, c, f, cell, 7);
+    let count = cells::card_word(w, c, f, cell, 8) + 1;
+    let held = cells::word(w, 6) + 1;
+    put_word(w, 8, next);
+    put_fault_cell(w, c, new, [0, day, code]);
+    link_fault(w, c, cell, last, new);
+    put_counts(w, c, cell, new, count, held);
+}
