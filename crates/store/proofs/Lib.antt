@@ -30,7 +30,9 @@ pub mod FindLaws
 -- What the contracts admit
 pub mod OneOutcome
 pub mod ShowLaws
--- The plans of calls
+-- The plans of calls, the changes that they make, and the calls
 pub mod PlanLaws
+pub mod MakeLaws
+pub mod CallLaws
 -- What Open writes
 pub mod FreshLaws

@@ -9,9 +9,10 @@ use lib.ListN.{length, take}
 use Rattle.rules.specs.Table.{splits, contracts}
 use Rattle.model.specs.Serial.{validSerial}
 use Rattle.model.specs.Model.{Store, held, size, bucket, addressIn, chainFor, found, before, cellsOf}
-use Rattle.model.specs.Layout.{first, last}
-use Rattle.model.specs.Calls.{Answer, Step}
+use Rattle.model.specs.Layout.{first, last, encode}
+use Rattle.model.specs.Calls.{Answer, Step, fileStep}
 use Rattle.store.specs.Leaves.{Gives}
+use Rattle.store.specs.declared.Answer as given
 use Rattle.store.specs.declared.plans.Plan.{Plan}
 use Rattle.store.specs.declared.search.Spot.{Spot}
 
@@ -30,6 +31,10 @@ refusal number place faults = record { number = number; comparisons = place; sca
 abbrev pub ahead : Spot → ℕ → ℕ → Plan
 ahead o scanned faults = record { number = 0; comparisons = o .place; scanned = scanned; faults = faults; bucket = o .bucket; cell = o .cell; prev = o .prev }
 
+-- the answer that a plan has
+abbrev pub answered : Plan → given.Answer
+answered r = record { number = r .number; comparisons = r .comparisons; scanned = r .scanned; faults = r .faults }
+
 -- the places of a valid serial: its bucket, the cell of its card or 0, and the cell before that, which is the chain's last where no card has
 -- the serial
 pub record Places (s : Store) (bytes : List ℕ) (n : ℕ) (r : Plan) : Type 0 where
@@ -46,3 +51,19 @@ pub record Plans (a : Answer) (s : Store) (bytes : List ℕ) (n : ℕ) (r : Plan
 -- the same with any room of so many words: it enters the answer by its length alone
 pub record PlansFor (step : List ℕ → Step) (room : ℕ) (s : Store) (bytes : List ℕ) (n : ℕ) (r : Plan) : Type 0 where
   pub with-room : (given : List ℕ) → length given ≡ room → Plans (step given .answer) s bytes n r
+
+-- File of a serial, as a step that takes a room and leaves it alone
+abbrev pub fileWith : Store → ℕ → ℕ → List ℕ → ℕ → List ℕ → Step
+fileWith s day code bytes n room = fileStep s bytes n day code
+
+-- a plan that goes ahead, of some serial and some room
+pub record Ready (step : List ℕ → ℕ → List ℕ → Step) (s : Store) (r : Plan) : Type 0 where
+  pub bytes : List ℕ
+  pub n : ℕ
+  pub room : List ℕ
+  pub plan : Plans (step bytes n room .answer) s bytes n r
+  pub done : r .number ≡ 0
+
+-- the words left are those of the store of the step, whichever serial and room the plan is of
+pub record Made (step : List ℕ → ℕ → List ℕ → Step) (s : Store) (r : Plan) (words : List ℕ) : Type 0 where
+  pub leaves : (bytes : List ℕ) (n : ℕ) (room : List ℕ) → Plans (step bytes n room .answer) s bytes n r → words ≡ encode (step bytes n room .store)

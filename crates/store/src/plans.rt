@@ -11,7 +11,8 @@ ghost use Rattle.model.specs.Meaning.{nextCard};
 ghost use Rattle.model.specs.Calls.{enterStep, fileStep, showStep, withdrawStep};
 ghost use Rattle.store.specs.Cells.{Sized, Read};
 ghost use Rattle.store.specs.Search.{Ends};
-ghost use Rattle.store.specs.Plans.{growScan, shrinkScan, refusal, ahead, Plans, PlansFor};
+ghost use Rattle.store.specs.Plans.{growScan, shrinkScan, refusal, ahead, answered, Plans, PlansFor};
+use crate::Answer;
 use crate::cells;
 use crate::cells::Header;
 use crate::search;
@@ -57,6 +58,18 @@ fn accepted(s: Spot, scanned: u32, faults: u32) -> Plan
         bucket: s.bucket,
         cell: s.cell,
         prev: s.prev,
+    }
+}
+
+// The answer of a plan.
+pub fn answer_of(t: Plan) -> Answer
+    ensures { λ r. ⌜ r ≡ answered t ⌝ }
+{
+    Answer {
+        number: t.number,
+        comparisons: t.comparisons,
+        scanned: t.scanned,
+        faults: t.faults,
     }
 }
 
