@@ -32,3 +32,7 @@ pub mod OneOutcome
 pub mod ShowLaws
 -- What Open writes
 pub mod FreshLaws
+-- Laws of chains that end, cell by cell, and of a chain parted in two
+pub mod EndsLaws
+pub mod PartingLaws
+pub mod TableLaws

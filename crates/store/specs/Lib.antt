@@ -8,3 +8,4 @@ pub mod Leaves
 pub mod Plans
 pub mod Search
 pub mod Fresh
+pub mod Table

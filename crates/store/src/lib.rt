@@ -14,6 +14,7 @@ mod parts;
 mod search;
 mod serial;
 mod show;
+mod table;
 mod walks;
 mod writes;
 
