@@ -39,3 +39,7 @@ pub mod MakeLaws
 pub mod CallLaws
 -- What Open writes
 pub mod FreshLaws
+-- Laws of chains that end, cell by cell, and of a chain parted in two
+pub mod EndsLaws
+pub mod PartingLaws
+pub mod TableLaws

@@ -9,3 +9,4 @@ pub mod Sequences
 pub mod Search
 pub mod Writes
 pub mod Fresh
+pub mod Table
