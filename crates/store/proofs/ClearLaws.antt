@@ -1,6 +1,6 @@
 -- A history that is cleared cell by cell: at each turn, clearing what is left gives what clearing the whole gives (`Clearing`), since no
--- next word is written.
-use mathlib.Core.Path.{_≡_, refl, sym, ap, _∙_, subst}
+-- next word is written. Cleared, it is put before the free cells (`give-is`).
+use mathlib.Core.Path.{_≡_, refl, sym, ap, _∙_}
 use mathlib.Core.List.{List}
 use Prim.Native.Nat.{ℕ, zero, suc, _≤_, _<_}
 use native.Mathlib.Omega.{arith}

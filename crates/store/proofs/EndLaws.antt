@@ -1,20 +1,18 @@
--- A chain that ends (`Ends`), for loops that write as they go. Its first cell is within the limit, and what is behind that ends too
--- (`ends-open`, `ends-last`); no cell stands on it twice (`ends-once`); and it ends in any words that have the same next words at its cells
+-- A chain that ends (`Ends`), for loops that write as they go. Its first cell is within the limit, what is behind that ends too
+-- (`ends-open`), and so is its last cell (`ends-last`); and it is the same chain in any words that have the same next words at its cells
 -- (`ends-frame`).
 use mathlib.Core.Path.{_≡_, refl, sym, ap, _∙_, subst}
-use mathlib.Core.Logic.{⊎-elim}
 use mathlib.Core.Bool.{true}
 use mathlib.Core.List.{List, [], _∷_}
-use Prim.Native.Nat.{ℕ, suc, _+_, _≤_, _<_}
+use Prim.Native.Nat.{ℕ, _≤_, _<_}
 use native.Mathlib.Omega.{arith}
 use lib.ListN.{length}
-use Rattle.rules.proofs.Tests.{both, eq?}
+use Rattle.rules.proofs.Tests.{both}
 use Rattle.model.specs.Lists.{between, all}
 use Rattle.model.specs.Layout.{follow, last}
 use Rattle.model.specs.Meaning.{In, Leads}
 use Rattle.model.proofs.Lists.{between-is, Every}
-use Rattle.model.proofs.Sums.{bit-same, bit-other}
-use Rattle.model.proofs.Walks.{times-count, led-follow, every-in, in-every}
+use Rattle.model.proofs.Walks.{led-follow, every-in, in-every}
 use Rattle.store.specs.Search.{Ends}
 use Rattle.store.proofs.AlongLaws.{follow-length}
 
@@ -35,23 +33,12 @@ last-of limit x (y ∷ l) e = last-of limit y l (e .1)
 walked : (limit : ℕ) (next : ℕ → ℕ) (h : ℕ) (l : List ℕ) → Leads next h l → all (between 1 limit) l ≡ true → length l ≤ limit → follow limit next h ≡ l
 walked limit next h l r b s = led-follow next limit h l r (in-every (λ i. 1 ≤ i) l (λ i p. every-in (Cell limit) l (within limit l b) i p .0)) s
 
--- a cell of a walk begins a shorter one
-later : (next : ℕ → ℕ) (h x : ℕ) (l : List ℕ) → Leads next h l → In x l → (t : List ℕ) × (length t < length l) × Leads next (next x) t × ((i : ℕ) → In i t → In i l)
-later next h x [] r p = absurd (omega arith)
-later next h x (y ∷ l) r p =
-    ⊎-elim (λ (e : x ≡ y). (l, omega arith, rw e (r .1), λ i q. omega (arith, times-count i l, times-count i (y ∷ l))))
-    (λ (d : x ≡ y → ⊥). let (t, a, b, f) = later next (next y) x l (r .1) (omega (arith, times-count x l, times-count x (y ∷ l), bit-other x y d)) in
-    (t, omega arith, b, λ i q. let z = f i q in omega (arith, times-count i l, times-count i (y ∷ l)))) (eq? x y)
-
 -- the same next words at the cells of a walk
 led-frame : (next new : ℕ → ℕ) (h : ℕ) (l : List ℕ) → Leads next h l → Every (λ i. new i ≡ next i) l → Leads new h l
 led-frame next new h [] r e = r
 led-frame next new h (x ∷ l) r e = (r .0, rw (e .0) (led-frame next new (next x) l (r .1) (e .1)))
 
 module _ {limit : ℕ} {next : ℕ → ℕ} {h : ℕ} (e : Ends limit next h) where
-  pub ends-in : (i : ℕ) → In i (follow limit next h) → (1 ≤ i) × (i ≤ limit)
-  ends-in = every-in (Cell limit) (follow limit next h) (within limit (follow limit next h) (e .inside))
-
   pub ends-frame : (new : ℕ → ℕ) → ((i : ℕ) → In i (follow limit next h) → new i ≡ next i) → Ends limit new h × (follow limit new h ≡ follow limit next h)
   ends-frame new f =
       let l = follow limit next h in
@@ -94,12 +81,3 @@ module _ {limit : ℕ} {next : ℕ → ℕ} {h : ℕ} (e : Ends limit next h) wh
     -- each turn of a loop leaves fewer cells
     pub ends-less : length (follow limit next (next h)) < length (follow limit next h)
     ends-less = omega (arith, ap length (ends-open .cells))
-
-    pub ends-once : In h (follow limit next (next h)) → ⊥
-    ends-once p =
-        let o = ends-open in
-        let l = follow limit next (next h) in
-        let (t, a, b, f) = later next (next h) h l (o .behind .leads) p in
-        let s : follow limit next (next h) ≡ t =
-        led-follow next limit (next h) t b (in-every (λ i. 1 ≤ i) t (λ i q. every-in (Cell limit) l (within limit l (o .behind .inside)) i (f i q) .0)) (omega (arith, follow-length limit next (next h))) in
-        omega (arith, ap length s)
