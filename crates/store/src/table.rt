@@ -102,6 +102,7 @@ fn low_p(maxp: u32, p: u32) -> u32
     if p == 0 { maxp / 2 - 1 } else { p - 1 }
 }
 
+// maxp and p, words 3 and 4 of the header.
 fn set_state(w: &mut [u32], maxp: u32, p: u32)
     requires { ⌜ segmentsAt + top ≤ length (now w) ⌝ }
     ensures { λ _. ⌜ now (w .exit) ≡ set (set (now (w .entry)) 3 maxp) 4 p ⌝ }
