@@ -110,7 +110,7 @@ pub led-first : (next : ℕ → ℕ) (h : ℕ) (l : List ℕ) → Leads next h l
 led-first next h [] r = r
 led-first next h (x ∷ l) r = r .0
 
-led-follow : (next : ℕ → ℕ) (fuel h : ℕ) (l : List ℕ) → Leads next h l → Every (λ i. 1 ≤ i) l → length l ≤ fuel → follow fuel next h ≡ l
+pub led-follow : (next : ℕ → ℕ) (fuel h : ℕ) (l : List ℕ) → Leads next h l → Every (λ i. 1 ≤ i) l → length l ≤ fuel → follow fuel next h ≡ l
 unfolding follow
 led-follow next zero h [] r p b = refl
 led-follow next (suc fuel) h [] r p b = rw (eq-eqb h 0 r)

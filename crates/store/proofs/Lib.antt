@@ -23,13 +23,20 @@ pub mod PartsSound
 pub mod SoundParts
 pub mod Decides
 pub mod AlongLaws
+pub mod EndLaws
+pub mod ClearLaws
 -- Laws of the search, of the words of a store as they are read, and of what is found there
 pub mod SearchLaws
 pub mod StoredLaws
 pub mod FindLaws
 -- What the contracts admit
 pub mod OneOutcome
+pub mod ProgramDemands
 pub mod ShowLaws
+-- The plans of calls, the changes that they make, and the calls
+pub mod PlanLaws
+pub mod MakeLaws
+pub mod CallLaws
 -- What Open writes
 pub mod FreshLaws
 -- Laws of chains that end, cell by cell, of a chain parted in two, and of the table grown and shrunk

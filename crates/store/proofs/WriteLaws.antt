@@ -7,7 +7,7 @@ use mathlib.Core.List.{List, [], _∷_, _++_}
 use Prim.Native.Nat.{ℕ, zero, suc, _+_, _-_, _*_, _≤_, _<_}
 use native.Mathlib.Omega.{arith}
 use lib.Dec.{eqb}
-use lib.ListN.{length, getD, set, take, drop, length-set}
+use lib.ListN.{length, getD, set, take, drop, replicate, length-set}
 use lib.Seq.{sets, length-sets, getD-set-other, take-set-le, take-set-lt, drop-set-lt, drop-set-add}
 use borrow.Author.Tests.{eq-eqb, ne-eqb}
 use borrow.Rule.Slice.PartMut.{midOf, putMid, mid-len, put-same, set-mid-at}
@@ -15,7 +15,7 @@ use Rattle.rules.specs.Table.{top}
 use Rattle.rules.proofs.Tests.{by-cases}
 use Rattle.model.specs.Layout.{segmentsAt, cardWidth, faultWidth, cardsAt, faultsAt, cellAt, packed, cardWord, faultWord}
 use Rattle.model.specs.Serial.{validSerial}
-use Rattle.model.specs.Words.{cardAt, faultAt, linkAt, newWords, placeWords, fileWords}
+use Rattle.model.specs.Words.{cardAt, faultAt, linkAt, newWords, placeWords, fileWords, giveWords, removeWords}
 use Rattle.model.proofs.Writes.{sets-out}
 use Rattle.store.specs.Cells.{Sized, packedAll}
 use Rattle.store.proofs.FindLaws.{valid-length, valid-packed}
@@ -159,3 +159,10 @@ pub file-is : (w : List ℕ) (c i day code : ℕ) → getD w 1 0 ≡ c → {new 
     → w₄ ≡ set (set (set w₃ (cardAt i 7) new) (cardAt i 8) (count + 1)) 6 (held + 1) → w₄ ≡ fileWords w i day code
 unfolding fileWords
 file-is w c i day code limit new next last count held e₁ e₂ e₃ e₄ = rw (e₄, e₃, e₂, e₁, held, count, last, next, new, ← limit)
+
+pub remove-is : (w : List ℕ) (b h i : ℕ) {next first last count free cards faults : ℕ} {w₁ w₂ w₃ w₄ : List ℕ} → next ≡ cardWord w i 0 → first ≡ cardWord w i 6
+    → last ≡ cardWord w i 7 → count ≡ cardWord w i 8 → free ≡ getD w 7 0 → cards ≡ getD w 5 0 → faults ≡ getD w 6 0 → w₁ ≡ giveWords w first last
+    → w₂ ≡ set w₁ (linkAt b h) next → w₃ ≡ set (sets w₂ (cardAt i 0) (free ∷ replicate (cardWidth - 1) 0)) 7 i
+    → w₄ ≡ set (set w₃ 5 (cards - 1)) 6 (faults - count) → w₄ ≡ removeWords w b h i
+unfolding removeWords
+remove-is w b h i next first last count free cards faults e₁ e₂ e₃ e₄ = rw (e₄, e₃, e₂, e₁, faults, cards, free, count, last, first, next)

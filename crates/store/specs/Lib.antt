@@ -3,9 +3,10 @@ pub mod Marks
 pub mod Cells
 pub mod Walk
 pub mod Checker
-pub mod Writes
 pub mod Leaves
 pub mod Plans
+pub mod Sequences
 pub mod Search
+pub mod Writes
 pub mod Fresh
 pub mod Table

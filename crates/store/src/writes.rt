@@ -2,15 +2,19 @@
 // alone; what it did is said of the whole words by the function that lends the part.
 ghost use mathlib.Core.Path.{_≡_};
 ghost use mathlib.Core.Bool.{true, cond};
+ghost use mathlib.Core.List.{_∷_};
 ghost use Prim.Native.Nat.{_+_, _-_, _*_, _≤_, _<_};
 ghost use lib.Dec.{eqb};
-ghost use lib.ListN.{length, set, take};
+ghost use lib.ListN.{length, set, take, replicate};
 ghost use lib.Seq.{sets};
 ghost use Rattle.rules.specs.Table.{top};
-ghost use Rattle.model.specs.Layout.{segmentsAt, cardWidth, faultWidth};
+ghost use Rattle.model.specs.Layout.{segmentsAt, cardWidth, faultWidth, follow, last as lastOf};
+ghost use Rattle.model.specs.Meaning.{nextFault};
+ghost use Rattle.store.specs.Cells.{Sized};
 ghost use Rattle.model.specs.Serial.{validSerial};
-ghost use Rattle.model.specs.Words.{cardAt, faultAt, linkAt, placeWords, fileWords};
-ghost use Rattle.store.specs.Writes.{MayPlace, MayFile};
+ghost use Rattle.model.specs.Words.{cardAt, faultAt, linkAt, placeWords, fileWords, clearWords, giveWords, removeWords};
+ghost use Rattle.store.specs.Writes.{MayPlace, MayFile, MayRemove};
+ghost use Rattle.store.specs.Search.{Ends};
 use crate::cells;
 use crate::front;
 use crate::serial;
@@ -179,4 +183,69 @@ pub fn file_at(w: &mut [u32], c: u32, f: u32, cell: u32, day: u32, code: u32)
     put_fault_cell(w, c, new, [0, day, code]);
     link_fault(w, c, cell, last, new);
     put_counts(w, c, cell, new, count, held);
+}
+
+// Each fault cell from `first` on is zero but for its next word.
+fn clear_history(w: &mut [u32], c: u32, f: u32, first: u32)
+    requires { ⌜ Sized (now w) c f × Ends f (nextFault (now w)) first ⌝ }
+    ensures { λ _. ⌜ now (w .exit) ≡ clearWords f c (now (w .entry)) first ⌝ }
+{
+    let mut i = first;
+    while i != 0 {
+        let next = cells::fault_word(w, c, f, i, 0);
+        put_fault(w, c, i, 1, 0);
+        put_fault(w, c, i, 2, 0);
+        i = next;
+    }
+}
+
+// A history goes, in its order, to the front of the free fault cells: they stand behind its last cell.
+fn give_back(w: &mut [u32], c: u32, f: u32, first: u32, last: u32)
+    requires { ⌜ Sized (now w) c f × Ends f (nextFault (now w)) first × (last ≡ lastOf (follow f (nextFault (now w)) first)) ⌝ }
+    ensures { λ _. ⌜ now (w .exit) ≡ giveWords (now (w .entry)) first last ⌝ }
+{
+    if first == 0 {
+        return;
+    }
+    let free = cells::word(w, 8);
+    clear_history(w, c, f, first);
+    put_fault(w, c, last, 0, free);
+    put_word(w, 8, first);
+}
+
+// A card cell goes to the front of the free ones.
+fn free_card(w: &mut [u32], c: u32, i: u32, free: u32)
+    requires { ⌜ (segmentsAt + top + cardWidth * c ≤ length (now w)) × (1 ≤ i) × (i ≤ c) ⌝ }
+    ensures { λ _. ⌜ now (w .exit) ≡ set (sets (now (w .entry)) (cardAt i 0) (free ∷ replicate (cardWidth - 1) 0)) 7 i ⌝ }
+{
+    put_card_cell(w, c, i, [free, 0, 0, 0, 0, 0, 0, 0, 0]);
+    put_word(w, 7, i);
+}
+
+// The cards and faults held.
+fn put_held(w: &mut [u32], cards: u32, faults: u32)
+    requires { ⌜ 6 < length (now w) ⌝ }
+    ensures { λ _. ⌜ now (w .exit) ≡ set (set (now (w .entry)) 5 cards) 6 faults ⌝ }
+{
+    put_word(w, 5, cards);
+    put_word(w, 6, faults);
+}
+
+// The card in the cell, behind cell `prev` of bucket b's chain or its first, is taken out: its faults are given back, the chain passes it
+// by, and its cell is free.
+pub fn remove_at(w: &mut [u32], c: u32, f: u32, b: u32, prev: u32, cell: u32)
+    requires { ⌜ MayRemove (now w) c f b prev cell ⌝ }
+    ensures { λ _. ⌜ now (w .exit) ≡ removeWords (now (w .entry)) b prev cell ⌝ }
+{
+    let next = cells::card_word(w, c, f, cell, 0);
+    let first = cells::card_word(w, c, f, cell, 6);
+    let last = cells::card_word(w, c, f, cell, 7);
+    let count = cells::card_word(w, c, f, cell, 8);
+    let free = cells::word(w, 7);
+    let cards = cells::word(w, 5) - 1;
+    let faults = cells::word(w, 6) - count;
+    give_back(w, c, f, first, last);
+    link(w, c, b, prev, next);
+    free_card(w, c, cell, free);
+    put_held(w, cards, faults);
 }
