@@ -39,7 +39,8 @@ pub mod MakeLaws
 pub mod CallLaws
 -- What Open writes
 pub mod FreshLaws
--- Laws of chains that end, cell by cell, and of a chain parted in two
+-- Laws of chains that end, cell by cell, of a chain parted in two, and of the table grown and shrunk
 pub mod EndsLaws
 pub mod PartingLaws
 pub mod TableLaws
+pub mod GrowLaws
