@@ -31,6 +31,7 @@ pub mod StoredLaws
 pub mod FindLaws
 -- What the contracts admit
 pub mod OneOutcome
+pub mod ProgramDemands
 pub mod ShowLaws
 -- The plans of calls, the changes that they make, and the calls
 pub mod PlanLaws
@@ -38,3 +39,8 @@ pub mod MakeLaws
 pub mod CallLaws
 -- What Open writes
 pub mod FreshLaws
+-- Laws of chains that end, cell by cell, of a chain parted in two, and of the table grown and shrunk
+pub mod EndsLaws
+pub mod PartingLaws
+pub mod TableLaws
+pub mod GrowLaws

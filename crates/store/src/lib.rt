@@ -17,6 +17,8 @@ pub mod plans;
 mod search;
 mod serial;
 pub mod shows;
+mod show;
+mod table;
 mod walks;
 mod writes;
 
