@@ -1,5 +1,5 @@
--- What a plan that goes ahead makes of sound words: the places of the plan are those that the writers ask for (`may-file` ..), and the words
--- that they leave are those of the step's store (`made-file` ..).
+-- What a plan that goes ahead makes of sound words: the places of the plan are those that the writers ask for (`may-place`, `may-file`,
+-- `may-remove`), and the words that they leave are those of the step's store (`made-enter`, `made-file`, `made-withdraw`).
 use mathlib.Core.Path.{_≡_, refl, sym, ap, _∙_}
 use mathlib.Core.Logic.{⊎-elim}
 use mathlib.Core.Bool.{Bool, true, false}
@@ -13,7 +13,7 @@ use Rattle.rules.specs.Table.{top}
 use Rattle.rules.proofs.Tests.{eq?, both}
 use Rattle.model.specs.Lists.{all, between}
 use Rattle.model.specs.Serial.{validSerial, validFault}
-use Rattle.model.specs.Model.{Fault, Card, Store, cards, held, faultsHeld, chainFor, found, comparisons, splitScan, contractScan, faultCellsOf, placed, grown, entered, filed, historyIn, removed, shrunk, withdrawn}
+use Rattle.model.specs.Model.{Fault, Card, Store, cards, held, faultsHeld, chainFor, comparisons, splitScan, contractScan, faultCellsOf, placed, grown, entered, filed, historyIn, removed, shrunk, withdrawn}
 use Rattle.model.specs.Layout.{last, follow, cardWidth, faultWidth, cardsAt, faultsAt, cardCell, cardWord, readFault, decode, encode, sound}
 use Rattle.model.specs.Meaning.{nextFault}
 use Rattle.model.specs.Words.{placeWords, fileWords, removeWords}
@@ -35,13 +35,13 @@ use Rattle.model.proofs.File.{rep-filed}
 use Rattle.model.proofs.Remove.{rep-removed}
 use Rattle.store.specs.Cells.{Read}
 use Rattle.store.specs.Search.{faultsFrom}
-use Rattle.store.specs.Plans.{Places, Plans}
+use Rattle.store.specs.Plans.{Places, Plans, Holds, Paired}
 use Rattle.store.specs.Writes.{MayPlace, MayFile, MayRemove}
 use Rattle.store.specs.declared.plans.Plan.{Plan}
 use Rattle.store.specs.declared.search.Spot.{Spot}
 use Rattle.store.proofs.AlongLaws.{follow-length}
 use Rattle.store.proofs.StoredLaws.{Stored, read-store}
-use Rattle.store.proofs.FindLaws.{Behind, NotHeld, not-held, IsHeld, is-held, held-cell}
+use Rattle.store.proofs.FindLaws.{Behind, NotHeld, not-held, IsHeld, is-held, HeldCell, held-cell}
 use Rattle.store.proofs.ShowLaws.{faults-long}
 
 -- cells of histories
@@ -74,21 +74,23 @@ prev-inside prev f = ⊎-elim (λ (z : prev ≡ 0). omega arith) (λ (d : prev �
 
 -- plans that go ahead
 
-abbrev spotOf : Plan → Bool → Spot
-spotOf r held = record { bucket = r .bucket; held = held; place = r .comparisons; cell = r .cell; prev = r .prev }
+-- the places of a plan as those of a search
+abbrev spotOf : Store → List ℕ → Plan → Bool → Spot
+spotOf s y r held = record { bucket = r .bucket; held = held; place = comparisons y (chainFor s y); cell = r .cell; prev = r .prev }
 
 module _ (w : List ℕ) (e : sound w ≡ true) (bytes : List ℕ) (n : ℕ) {r : Plan} where
-  spot-none : Places (decode w) bytes n r → look (decode w) (take n bytes) ≡ []
-      → r .comparisons ≡ comparisons (take n bytes) (chainFor (decode w) (take n bytes)) → NotHeld w (decode w) (take n bytes) (spotOf r false)
-  spot-none q l k =
-      not-held (sound-is w e .0) (take n bytes)
-      (record { bucket-is = q .bucket-is; held-is = rw l; place-is = k; cell-is = q .cell-is; prev-is = q .prev-is }) refl
+  spot-none : Places (decode w) bytes n r → look (decode w) (take n bytes) ≡ [] → NotHeld w (decode w) (take n bytes) (spotOf (decode w) (take n bytes) r false)
+  spot-none q l =
+      not-held (sound-is w e .0) (take n bytes) (record { bucket-is = q .bucket-is; held-is = rw l; place-is = refl; cell-is = q .cell-is; prev-is = q .prev-is }) refl
 
-  spot-held : Places (decode w) bytes n r → length (found (take n bytes) (chainFor (decode w) (take n bytes))) ≡ 1
-      → r .comparisons ≡ comparisons (take n bytes) (chainFor (decode w) (take n bytes)) → IsHeld w (decode w) (take n bytes) (spotOf r true)
-  spot-held q l k =
+  spot-held : Places (decode w) bytes n r → length (look (decode w) (take n bytes)) ≡ 1 → IsHeld w (decode w) (take n bytes) (spotOf (decode w) (take n bytes) r true)
+  spot-held q l =
       is-held (sound-is w e .0) (take n bytes)
-      (record { bucket-is = q .bucket-is; held-is = sym (lt-ltb 0 (length (found (take n bytes) (chainFor (decode w) (take n bytes)))) (omega arith)); place-is = k; cell-is = q .cell-is; prev-is = q .prev-is }) refl
+      (record { bucket-is = q .bucket-is; held-is = sym (lt-ltb 0 (length (look (decode w) (take n bytes))) (omega arith)); place-is = refl; cell-is = q .cell-is; prev-is = q .prev-is }) refl
+
+  -- the cell of a card that a plan found leads to its history
+  pub planned-cell : Places (decode w) bytes n r → length (look (decode w) (take n bytes)) ≡ 1 → {c f m q : ℕ} → Read w c f m q → HeldCell w (take n bytes) c f (r .cell)
+  planned-cell q l h = held-cell h (spot-held q l)
 
   -- a serial's bucket is one of the table
   bucket-top : Places (decode w) bytes n r → r .bucket < top
@@ -106,8 +108,8 @@ module _ (w : List ℕ) (e : sound w ≡ true) (bytes : List ℕ) (n : ℕ) {r :
     unfolding enterStep
     enter-step = let (v, l, b) = enter-facts in rw (v, l, ne-eqb (held (decode w)) (decode w .limit) (omega arith))
 
-    enter-none : NotHeld w (decode w) (take n bytes) (spotOf r false)
-    enter-none = spot-none (p .places z) (enter-facts .1) (p .answer .comparisons-are ∙ ap (λ (t : Step). t .answer .comparisons) enter-step)
+    enter-none : NotHeld w (decode w) (take n bytes) (spotOf (decode w) (take n bytes) r false)
+    enter-none = spot-none (p .places z) (enter-facts .1)
 
     pub may-place : {c f m q : ℕ} → Read w c f m q → MayPlace w c f (r .bucket) (r .prev)
     may-place {c} {f} h =
@@ -145,8 +147,8 @@ module _ (w : List ℕ) (e : sound w ≡ true) (bytes : List ℕ) (n : ℕ) {r :
     unfolding fileStep
     file-step = let (v, u, l, b) = file-facts in rw (v, u, l, ne-eqb (faultsHeld (decode w)) (decode w .faultLimit) (omega arith))
 
-    file-held : IsHeld w (decode w) (take n bytes) (spotOf r true)
-    file-held = spot-held (p .places z) (file-facts .2) (p .answer .comparisons-are ∙ ap (λ (t : Step). t .answer .comparisons) file-step)
+    file-held : IsHeld w (decode w) (take n bytes) (spotOf (decode w) (take n bytes) r true)
+    file-held = spot-held (p .places z) (file-facts .2)
 
     pub may-file : {c f m q : ℕ} → Read w c f m q → MayFile w c f (r .cell)
     may-file {c} {f} h =
@@ -167,10 +169,10 @@ module _ (w : List ℕ) (e : sound w ≡ true) (bytes : List ℕ) (n : ℕ) {r :
           held = omega (arith, faults-held-at w s t, file-facts .3, l .1);
         }
 
-    pub made-file : fileWords w (r .cell) day code ≡ encode (fileStep (decode w) bytes n day code .store)
-    made-file =
+    pub made-file : {v : List ℕ} → v ≡ fileWords w (r .cell) day code → v ≡ encode (fileStep (decode w) bytes n day code .store)
+    made-file i =
         let (v, u, l, b) = file-facts in
-        rw (file-step, file-held .cell-is)
+        rw (i, file-step, file-held .cell-is)
         (rep-words _ (filed (decode w) (take n bytes) day code) (rep-filed w (decode w) (sound-is w e .0) (take n bytes) day code u (file-held .present) b))
 
   -- Withdraw
@@ -184,8 +186,15 @@ module _ (w : List ℕ) (e : sound w ≡ true) (bytes : List ℕ) (n : ℕ) {r :
     unfolding withdrawStep
     withdraw-step = let (v, l, b) = withdraw-facts in rw (v, l, le-ltb (length room) (2 * length (historyIn (decode w) (take n bytes))) b)
 
-    withdraw-held : IsHeld w (decode w) (take n bytes) (spotOf r true)
-    withdraw-held = spot-held (p .places z) (withdraw-facts .1) (p .answer .comparisons-are ∙ ap (λ (t : Step). t .answer .comparisons) withdraw-step)
+    withdraw-held : IsHeld w (decode w) (take n bytes) (spotOf (decode w) (take n bytes) r true)
+    withdraw-held = spot-held (p .places z) (withdraw-facts .1)
+
+    -- the room holds the card's pairs, and with them it is that of the step
+    pub withdraw-holds : Holds (decode w) r room
+    withdraw-holds = record { bytes = bytes; n = n; places = p .places z; one = withdraw-facts .1; wide = withdraw-facts .2 }
+
+    pub withdraw-room : {left : List ℕ} → Paired (decode w) r room left → left ≡ withdrawStep (decode w) bytes n room .room
+    withdraw-room k = k .pairs-are bytes n (p .places z) (withdraw-facts .1) ∙ ap (λ (t : Step). t .room) (sym withdraw-step)
 
     pub may-remove : {c f m q : ℕ} → Read w c f m q → MayRemove w c f (r .bucket) (r .prev) (r .cell)
     may-remove {c} {f} h =
