@@ -13,7 +13,7 @@ use Rattle.model.specs.Words.{faultAt, clearWords, giveWords}
 use Rattle.store.specs.Cells.{Sized}
 use Rattle.store.specs.Search.{Ends}
 use Rattle.store.proofs.AlongLaws.{follow-length}
-use Rattle.store.proofs.EndLaws.{ends-open, ends-frame, ends-less}
+use Rattle.store.proofs.EndsLaws.{ends-on, ends-frame, ends-less}
 use Rattle.store.proofs.WriteLaws.{sized-set, fault-past}
 
 -- a word of a fault cell, by the card limit
@@ -58,11 +58,11 @@ module _ {c f : ℕ} {w₀ : List ℕ} {first : ℕ} {w : List ℕ} {i : ℕ} (a
         ∙ ap (λ (l : List ℕ). getD l (faultAt c k 0) 0) e₁ ∙ getD-set-other w (faultAt c i 1) (faultAt c k 0) 0 0 (omega arith)
         ∙ sym (fault-read (a .sized) k 0)
 
-    behind : Ends f (nextFault v) next × (follow f (nextFault v) next ≡ follow f (nextFault w) (nextFault w i))
-    behind = rw n (ends-frame (ends-open (a .ends) ne .behind) (nextFault v) (λ k p. agree k))
+    behind : (follow f (nextFault v) next ≡ follow f (nextFault w) (nextFault w i)) × Ends f (nextFault v) next
+    behind = rw n (ends-frame (ends-on (a .ends) ne .1) (nextFault v) (λ k p. agree k))
 
     pub clear-less : length (follow f (nextFault v) next) < length (follow f (nextFault w) i)
-    clear-less = omega (arith, ap length (behind .1), ends-less (a .ends) ne)
+    clear-less = omega (arith, ap length (behind .0), ends-less (a .ends) ne)
 
     pub clear-next : Clearing c f w₀ first v next
     clear-next = go (a .fuel) (a .enough) (a .same)
@@ -72,7 +72,7 @@ module _ {c f : ℕ} {w₀ : List ℕ} {first : ℕ} {w : List ℕ} {i : ℕ} (a
         go (suc fuel) b s =
             record {
               sized = sized;
-              ends = behind .0;
+              ends = behind .1;
               fuel = fuel;
               enough = omega (arith, clear-less);
               same = rw (e₂, e₁, n, fault-read (a .sized) i 0) (sym (clear-more fuel c w i ne) ∙ s);
