@@ -30,7 +30,7 @@ use Rattle.model.proofs.Readings.{faults-held-at, free-faults-at, last-
 use Rattle.model.proofs.Look.{address-in}
 use Rattle.model.proofs.Steps.{filed-total, filed-fair}
 use Rattle.model.proofs.Cut.{Present}
-use Rattle.model.proofs.Whole.{Whole, rep-whole, whole-rep, each-apart, front-write, fault-fill, fault-chain, fault-behind, card-word, faults-fit, fronted, segments-kept, historyOf, cards-joined, history-get, history-set, history-below, taken-in, taken-none, taken-apart, taken-rest, taken-next, ends, last-nil, last-snoc}
+use Rattle.model.proofs.Whole.{Whole, rep-whole, whole-rep, each-apart, front-write, fault-fill, fault-chain, fault-behind, card-word, faults-fit, fronted, segments-kept, historyOf, cards-joined, history-get, history-set, history-below, taken-in, taken-none, taken-apart, taken-rest, taken-next, ends, last-none, last-at}
 
 module _ (w : List ℕ) (s : Store) (r : Rep w s) (y : List ℕ) (day code : ℕ) (valid : validFault day code ≡ true) (p : Present y (chainFor s y)) (room : faultsHeld s < s .faultLimit) where
   abbrev a : ℕ
@@ -208,11 +208,10 @@ module _ (w : List ℕ) (s : Store) (r : Rep w s) (y : List ℕ) (day code : ℕ
   linked = go (ends (card .faults))
     where
       go : (card .faults ≡ []) ⊎ ((xs : List Fault) × (z : Fault) × (card .faults ≡ xs ++ (z ∷ []))) → Linked (linkFor (last fs))
-      go (inl e) = subst Linked (sym (ap linkFor (ap (λ (l : List Fault). last (faultCellsOf l)) e ∙ last-nil))) (linked-first e)
+      go (inl e) = subst Linked (sym (ap linkFor (last-none (λ (f : Fault). f .at) (card .faults) e))) (linked-first e)
       go (inr (xs, z, e)) =
           let q = linked-behind xs z e in
-          let end : last fs ≡ z .at = ap (λ (l : List Fault). last (faultCellsOf l)) e ∙ ap last (map-append (λ (f : Fault). f .at) xs (z ∷ [])) ∙ last-snoc (faultCellsOf xs) (z .at) in
-          subst Linked (sym (ap linkFor end ∙ rw (ne-eqb (z .at) 0 (omega (arith, q .0))))) (q .1)
+          subst Linked (sym (ap linkFor (last-at (λ (f : Fault). f .at) (card .faults) xs z e) ∙ rw (ne-eqb (z .at) 0 (omega (arith, q .0))))) (q .1)
 
   -- the card's other fault words and the counts
 
@@ -221,7 +220,7 @@ module _ (w : List ℕ) (s : Store) (r : Rep w s) (y : List ℕ) (day code : ℕ
   card-filed =
       let e = sym fs-filed in
       let i = ap first e in
-      let j = sym (last-snoc fs new) ∙ ap last e in
+      let j = sym (last-at (λ (f : Fault). f .at) (withFault fault card .faults) (card .faults) fault refl) in
       let n = sym (length-append fs (new ∷ [])) ∙ ap length e in
       λ t. cellWith (i t) (j t) (n t)
 

@@ -1,5 +1,5 @@
--- A history given back to the free fault cells (`history-given`). Cell by cell the day and the code are set to zero, which moves no cell
--- (`cleared`); then the last cell leads to what was the first free one, so that the two chains are one, and the history is empty.
+-- A history given back to the free fault cells. Cell by cell the day and the code are set to zero, which moves no cell (`cleared`); then
+-- the last cell leads to what was the first free one, so that the two chains are one, and the history is empty (`joined`).
 use mathlib.Core.Path.{_≡_, refl, sym, ap, _∙_, subst}
 use mathlib.Core.List.{List, [], _∷_, _++_, map, append-nil}
 use Prim.Native.Nat.{ℕ, zero, suc, _+_, _≤_, _<_}

@@ -36,9 +36,14 @@ pub mod Outcomes
 pub mod Demands
 -- What each change writes
 pub mod Whole
+pub mod Segments
 pub mod Place
 pub mod File
 -- What the definitions compute
 pub mod Computed
 pub mod Give
 pub mod Remove
+pub mod Parting
+pub mod Split
+pub mod Join
+pub mod Changes

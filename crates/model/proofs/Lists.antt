@@ -1,14 +1,14 @@
 -- Laws of the lists that the definitions use: equality of serials, keep, all, map, join, a table read by its index, and a fact of
 -- each element. None of them knows of cards.
-use Prim.Native.Nat.{ℕ, zero, suc, _+_, _-_, _*_, _≤_, _<_}
-use mathlib.Core.Path.{_≡_, refl, sym, ap, _∙_}
+use Prim.Native.Nat.{ℕ, zero, suc, _+_, _≤_, _<_}
+use mathlib.Core.Path.{_≡_, refl, ap, _∙_}
 use mathlib.Core.Logic.{_≢_, _↔_}
 use mathlib.Core.List.{List, [], _∷_, _++_, map, append-nil, append-assoc}
-use mathlib.Core.Bool.{Bool, true, false, not, _&&_, cond, false≢true}
+use mathlib.Core.Bool.{Bool, true, false, not, cond, false≢true}
 use native.Mathlib.Nat.{zero-add, suc-add}
 use native.Mathlib.Omega.{arith}
 use lib.Dec.{ltb, leb, eqb, eqb·suc-suc}
-use lib.ListN.{length, take, drop, getD, set, length-take, length-map, List·getD-eq-default}
+use lib.ListN.{length, take, drop, getD, set, length-take, List·getD-eq-default}
 use lib.Seq.{getD-take, getD-set-same, getD-set-other}
 use borrow.Author.Tests.{eq-eqb, ne-eqb, eqb-true, eqb-false, ltb-true, ltb-false, leb-true, le-leb}
 use Rattle.rules.proofs.Tests.{by-cases, not-both, both, all-of}
@@ -227,6 +227,10 @@ module _ {A : Type 0} (P : A → Type 0) where
   every-parts [] ys p = (tt, p)
   every-parts (x ∷ xs) ys p = let r = every-parts xs ys (p .1) in ((p .0, r .0), r .1)
 
+  pub every-keep : (f : A → Bool) (l : List A) → Every P l → Every P (keep f l)
+  every-keep f [] r = tt
+  every-keep f (x ∷ l) r = by-cases (f x) (λ e. rw e (r .0, every-keep f l (r .1))) (λ e. rw e (every-keep f l (r .1)))
+
   pub every-join : (bs : List (List A)) → Every P (join bs) → (j : ℕ) → Every P (getD bs j [])
   every-join [] r j = tt
   every-join (b ∷ bs) r zero = every-parts b (join bs) r .0
@@ -252,6 +256,10 @@ module _ {A : Type 0} (P : A → Type 0) where
   pub at-every : (l : List A) (d : A) → ((j : ℕ) → P (getD l j d)) → Every P l
   at-every [] d f = tt
   at-every (x ∷ xs) d f = (f 0, at-every xs d (λ j. f (suc j)))
+
+pub every-imp : {A : Type 0} (P Q : A → Type 0) (l : List A) → ((x : A) → P x → Q x) → Every P l → Every Q l
+every-imp P Q [] f r = tt
+every-imp P Q (x ∷ l) f r = (f x (r .0), every-imp P Q l f (r .1))
 
 pub every-map : {A B : Type 0} (P : B → Type 0) (g : A → B) (l : List A) → Every P (map g l) → Every (λ x. P (g x)) l
 every-map P g [] r = tt

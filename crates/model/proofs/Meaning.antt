@@ -1,7 +1,8 @@
 -- What soundness means (`sound-means`): words are sound exactly where each clause of document 01 holds of them. One way, the words stand
 -- for the store read from them, so each word and chain is what the layout makes of that store (`rep-means`). The other way, the chains
--- that lead to 0 and the words of each cell on them make what is read there stand, so the words stand for that store (`means-rep`). For a
--- walk that tests one chain at a time, `apart-in-buckets` says that no serial stands twice.
+-- that lead to 0 and the words of each cell on them make what is read there stand, so the words stand for that store (`means-rep`). For
+-- code that tests one chain at a time, `apart-in-buckets` says that no serial stands twice, and `filed-by-cell` that the histories may be
+-- walked through from card cell to card cell, the free ones too.
 use mathlib.Core.Path.{_≡_, refl, sym, ap, _∙_, subst}
 use mathlib.Core.Logic.{inl, inr, ⊎-elim, _↔_}
 use mathlib.Core.List.{List, [], _∷_, _++_, map, map-map}
@@ -19,11 +20,11 @@ use Rattle.rules.proofs.Tests.{both, all-of, eq?, lt?}
 use Rattle.model.specs.Lists.{all, same, join, from, total}
 use Rattle.model.specs.Serial.{serialOk, validFault}
 use Rattle.model.specs.Model.{Card, cards, histories, held, faultsHeld, bucket, faultCellsOf}
-use Rattle.model.specs.Layout.{Cell, headOr, chained, cardWidth, faultWidth, directoryAt, segmentsAt, segmentSize, cardCell, faultCell, freeCell, cardChains, faultChains, cardsAt, faultsAt, lengthFor, header, directory, segments, front, first, last, cardWord, faultWord, readFault, readCard, readChain, decode, goodCard, loadOk, sound}
-use Rattle.model.specs.Meaning.{In, Leads, limitIn, faultLimitIn, bucketsIn, bucketWord, nextCard, nextFault, bucketCells, freeCells, historyCells, freeFaultCells, heldCells, filedCells, bytesIn, serialIn, Sound}
+use Rattle.model.specs.Layout.{Cell, headOr, chained, cardWidth, faultWidth, directoryAt, segmentsAt, segmentSize, cardCell, faultCell, freeCell, cardChains, faultChains, cardsAt, faultsAt, lengthFor, header, directory, segments, front, first, last, follow, cardWord, faultWord, readFault, readCard, readChain, decode, goodCard, loadOk, sound}
+use Rattle.model.specs.Meaning.{In, ExactlyOnce, Leads, limitIn, faultLimitIn, bucketsIn, bucketWord, nextCard, nextFault, bucketCells, freeCells, historyCells, freeFaultCells, heldCells, filedCells, bytesIn, serialIn, Sound}
 use Rattle.model.proofs.Lists.{same-refl, same-is, Every, every-at, at-every, every-map, map-every, map-append}
 use Rattle.model.proofs.Tables.{length-table, table-at, table-from, take-table}
-use Rattle.model.proofs.Sums.{bit, count, total-append, total-map}
+use Rattle.model.proofs.Sums.{bit, count, total-append, total-map, total-flat}
 use Rattle.model.proofs.Each.{many}
 use Rattle.model.proofs.Chains.{Stand}
 use Rattle.model.proofs.Part.{cellIn, Held}
@@ -32,7 +33,7 @@ use Rattle.model.proofs.Fair.{Fair, inCell, faultIn, named, card-cells,
 use Rattle.model.proofs.Rep.{Rep, rep-front, size-top, segments-length}
 use Rattle.model.proofs.Decode.{head-faults, head-free, segments-from, segment-at, segment-past}
 use Rattle.model.proofs.Sound.{is-sound, sound-is}
-use Rattle.model.proofs.Walks.{every-in, in-every, every-all, all-every, in-one, one-in, Reads, led-stand, stand-led, reads-zero, zero-reads, total-members, total-apart, each-once, once-le, once-each, led-first}
+use Rattle.model.proofs.Walks.{every-in, in-every, every-all, all-every, in-one, one-in, Reads, led-stand, stand-led, reads-zero, zero-reads, total-members, total-apart, each-once, once-le, once-each, led-first, once-total}
 
 -- the store that is read from words
 
@@ -470,3 +471,26 @@ apart-in-buckets w addressed one i j p q e =
     let (b, l, y) = in-bucket w j q in
     let d : b ≡ a = sym (addressed b j l y) ∙ ap (λ (s : List ℕ). addressOf (codeOf s) (getD w 3 0) (getD w 4 0)) (sym e) ∙ addressed a i k x in
     one a i j k x (subst (λ (c : ℕ). In j (bucketCells w c)) d y) e
+
+-- the histories of all card cells are those of the cards: a free cell has none
+pub filed-by-cell : (w : List ℕ) → ExactlyOnce (limitIn w) (freeCells w ++ heldCells w) → ((i : ℕ) → In i (freeCells w) → cardWord w i 6 ≡ 0)
+    → (f : ℕ → ℕ) → total f (join (map (historyCells w) (from 1 (limitIn w)))) ≡ total f (filedCells w)
+unfolding filedCells historyCells follow
+filed-by-cell w r z f =
+    let g : ℕ → ℕ = λ i. total f (historyCells w i) in
+    omega (
+      arith,
+      total-flat f (historyCells w) (from 1 (limitIn w)),
+      once-total (limitIn w) (freeCells w ++ heldCells w) r g,
+      total-append g (freeCells w) (heldCells w),
+      none (freeCells w) (in-every (λ i. cardWord w i 6 ≡ 0) (freeCells w) z),
+      total-flat f (historyCells w) (heldCells w),
+    )
+  where
+    nothing : (fuel : ℕ) → follow fuel (nextFault w) 0 ≡ []
+    nothing zero = refl
+    nothing (suc fuel) = refl
+
+    none : (l : List ℕ) → Every (λ i. cardWord w i 6 ≡ 0) l → total (λ i. total f (historyCells w i)) l ≡ 0
+    none [] e = refl
+    none (i ∷ l) e = omega (arith, ap (λ (h : ℕ). total f (follow (faultLimitIn w) (nextFault w) h)) (e .0), ap (total f) (nothing (faultLimitIn w)), none l (e .1))

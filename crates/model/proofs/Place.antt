@@ -26,7 +26,7 @@ use Rattle.model.proofs.Rep.{Rep, size-top}
 use Rattle.model.proofs.Readings.{held-at, free-at}
 use Rattle.model.proofs.Look.{look, address-in}
 use Rattle.model.proofs.Steps.{placed-total, placed-fair}
-use Rattle.model.proofs.Whole.{Whole, rep-whole, whole-rep, each-apart, front-write, card-fill, card-chain, card-behind, cards-fit, fronted, fronted-bucket, segments-chain, segments-kept, Recorded, held-recorded, recorded-held, taken-in, taken-none, taken-apart, taken-rest, taken-next, ends, last-nil, last-snoc, link-first, link-behind}
+use Rattle.model.proofs.Whole.{Whole, rep-whole, whole-rep, each-apart, front-write, card-fill, card-chain, card-behind, cards-fit, fronted, fronted-bucket, segments-chain, segments-kept, Recorded, held-recorded, recorded-held, taken-in, taken-none, taken-apart, taken-rest, taken-next, ends, link-none, link-last}
 
 module _ (w : List ℕ) (s : Store) (r : Rep w s) (y : List ℕ) (v : serialOk y ≡ true) (none : look s y ≡ []) (room : held s < s .limit) where
   abbrev a : ℕ
@@ -136,10 +136,8 @@ module _ (w : List ℕ) (s : Store) (r : Rep w s) (y : List ℕ) (v : serialOk y
   linked = go (ends (chainFor s y))
     where
       go : (chainFor s y ≡ []) ⊎ ((xs : List Card) × (x : Card) × (chainFor s y ≡ xs ++ (x ∷ []))) → Linked (linkAt a (last (cellsOf (chainFor s y))))
-      go (inl e) = subst Linked (sym (ap (λ (l : List Card). linkAt a (last (cellsOf l))) e ∙ ap (linkAt a) last-nil ∙ link-first a)) (linked-first e)
-      go (inr (xs, x, e)) =
-          let q = linked-behind xs x e in
-          subst Linked (sym (ap (linkAt a) (ap (λ (l : List Card). last (cellsOf l)) e ∙ ap last (map-append (λ (c : Card). c .at) xs (x ∷ [])) ∙ last-snoc (cellsOf xs) (x .at)) ∙ link-behind a (x .at) (q .0))) (q .1)
+      go (inl e) = subst Linked (sym (link-none (λ (c : Card). c .at) (chainFor s y) a e)) (linked-first e)
+      go (inr (xs, x, e)) = let q = linked-behind xs x e in subst Linked (sym (link-last (λ (c : Card). c .at) (chainFor s y) a xs x e (q .0))) (q .1)
 
   -- the counts, and the histories with the new card's, which is empty
 

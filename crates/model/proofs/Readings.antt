@@ -4,14 +4,17 @@ use mathlib.Core.Path.{_≡_, refl, sym, ap, _∙_, subst}
 use mathlib.Core.List.{List, [], _∷_, _++_, map}
 use Prim.Native.Nat.{ℕ, suc, _+_, _<_}
 use native.Mathlib.Omega.{arith}
+use mathlib.Core.Bool.{true}
 use lib.Dec.{lit<}
 use lib.ListN.{length, getD}
+use Rattle.model.specs.Serial.{serialOk}
 use Rattle.model.specs.Model.{Store, Card, cards, held, faultsHeld, bucket, cellsOf, faultCellsOf}
 use Rattle.model.specs.Layout.{Cell, headOr, chained, cardWidth, segmentsAt, cardsAt, cardCell, header, front, first, last, cardWord, readCard, readFault, readChain}
 use Rattle.model.specs.Meaning.{bucketWord, bucketCells, historyCells, serialIn, bytesIn}
-use Rattle.model.proofs.Lists.{map-append, Every, every-parts}
+use Rattle.model.proofs.Lists.{map-append, Every, every-imp, every-parts}
 use Rattle.model.proofs.Chains.{Memory, Stands, Stand, stand-parts, chained-append}
 use Rattle.model.proofs.Part.{cellIn}
+use Rattle.model.proofs.Serials.{serial-read}
 use Rattle.model.proofs.Rep.{Rep, rep-front, size-top}
 use Rattle.model.proofs.Decode.{head-cards, segment-at, cards-at, read-chain}
 
@@ -32,6 +35,12 @@ module _ {A : Type 0} (at : A → ℕ) (read : ℕ → A) (numbered : (i : ℕ) 
 pub stand-at : (width : ℕ) (word : Memory) (xs : List Cell) (x : Cell) (ys : List Cell) → Stand word width (chained 0 (xs ++ (x ∷ ys)))
     → Stands word width (record { at = x .at; words = headOr 0 ys ∷ x .words })
 stand-at width word xs x ys r = stand-parts width word (chained (x .at) xs) (chained 0 (x ∷ ys)) (rw (← (chained-append 0 xs (x ∷ ys))) r) .1 .0
+
+-- the serial of a card whose cell stands
+pub serial-stands : (w : List ℕ) (t : ℕ) (x : Card) → serialOk (x .serial) ≡ true
+    → Stands (cellIn w cardsAt cardWidth) cardWidth (record { at = x .at; words = t ∷ cardCell x .words }) → serialIn w (x .at) ≡ x .serial
+unfolding serialIn bytesIn cardWord cardCell
+serial-stands w t x v q = serial-read _ _ _ _ _ (x .serial) v (q 1 (lit< tt)) (q 2 (lit< tt)) (q 3 (lit< tt)) (q 4 (lit< tt)) (q 5 (lit< tt))
 
 module _ (w : List ℕ) (s : Store) (r : Rep w s) where
   -- the header
@@ -71,6 +80,10 @@ module _ (w : List ℕ) (s : Store) (r : Rep w s) where
   pub chain-at : (b : ℕ) → b < length (s .buckets) → bucketCells w b ≡ cellsOf (bucket s b)
   chain-at b h = sym (chain-back b h .0)
 
+  pub serials-at : (b : ℕ) → b < length (s .buckets) → Every (λ c. serialIn w (c .at) ≡ c .serial) (bucket s b)
+  unfolding serialIn bytesIn readCard
+  serials-at b h = every-imp (λ c. readCard w (c .at) ≡ c) (λ c. serialIn w (c .at) ≡ c .serial) (bucket s b) (λ c e. ap (λ (c : Card). c .serial) e) (chain-back b h .1)
+
   -- the card x of bucket b
   module _ (b : ℕ) (xs : List Card) (x : Card) (ys : List Card) (e : bucket s b ≡ xs ++ (x ∷ ys)) where
     card-stands : Stands (cellIn w cardsAt cardWidth) cardWidth (record { at = cardCell x .at; words = headOr 0 (map cardCell ys) ∷ cardCell x .words })
@@ -94,12 +107,8 @@ module _ (w : List ℕ) (s : Store) (r : Rep w s) where
     unfolding cardWord cardCell
     fault-count-at = card-stands 8 (lit< tt)
 
-    pub card-at : b < length (s .buckets) → readCard w (x .at) ≡ x
+    card-at : b < length (s .buckets) → readCard w (x .at) ≡ x
     card-at h = every-parts (λ c. readCard w (c .at) ≡ c) xs (x ∷ ys) (subst (Every (λ c. readCard w (c .at) ≡ c)) e (chain-back b h .1)) .1 .0
-
-    pub serial-at : b < length (s .buckets) → serialIn w (x .at) ≡ x .serial
-    unfolding serialIn bytesIn readCard
-    serial-at h = ap (λ (c : Card). c .serial) (card-at h)
 
     -- its history
     history-back : b < length (s .buckets) → (faultCellsOf (x .faults) ≡ historyCells w (x .at)) × Every (λ f. readFault w (f .at) ≡ f) (x .faults)

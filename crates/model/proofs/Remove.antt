@@ -28,7 +28,7 @@ use Rattle.model.proofs.Readings.{held-at, faults-held-at, free-at, fre
 use Rattle.model.proofs.Look.{look, address-in}
 use Rattle.model.proofs.Steps.{removed-total, removed-fair}
 use Rattle.model.proofs.Cut.{Present}
-use Rattle.model.proofs.Whole.{Whole, rep-whole, whole-rep, each-apart, apart-less, front-write, card-fill, card-chain, card-cut, cards-fit, fronted, fronted-bucket, segments-chain, segments-kept, historyOf, cards-joined, history-get, history-set, history-below, Recorded, recorded-held, ends, last-nil, last-snoc, link-first, link-behind}
+use Rattle.model.proofs.Whole.{Whole, rep-whole, whole-rep, each-apart, apart-less, front-write, card-fill, card-chain, card-cut, cards-fit, fronted, fronted-bucket, segments-chain, segments-kept, historyOf, cards-joined, history-get, history-set, history-below, Recorded, recorded-held, ends, last-at, link-none, link-last}
 use Rattle.model.proofs.Give.{cleared, joined}
 
 module _ (w : List ℕ) (s : Store) (r : Rep w s) (y : List ℕ) (p : Present y (chainFor s y)) where
@@ -137,7 +137,7 @@ module _ (w : List ℕ) (s : Store) (r : Rep w s) (y : List ℕ) (p : Present y 
       go (inl e) = subst (λ (l : List Fault). Given (giveWords w (first (faultCellsOf l)) (last (faultCellsOf l)))) (sym e) (given-none e)
       go (inr (xs, z, e)) =
           let e₁ : fs ≡ faultCellsOf xs ++ (z .at ∷ []) = ap faultCellsOf e ∙ map-append (λ (f : Fault). f .at) xs (z ∷ []) in
-          let l : last fs ≡ z .at = ap last e₁ ∙ last-snoc (faultCellsOf xs) (z .at) in
+          let l : last fs ≡ z .at = last-at (λ (f : Fault). f .at) (card .faults) xs z e in
           let i = free-faults-at w s r in
           let c = limit-at w s r in
           let f = fault-limit-at w s r in
@@ -238,10 +238,8 @@ module _ (w : List ℕ) (s : Store) (r : Rep w s) (y : List ℕ) (p : Present y 
   unlinked = go (ends prior)
     where
       go : (prior ≡ []) ⊎ ((xs : List Card) × (z : Card) × (prior ≡ xs ++ (z ∷ []))) → Unlinked (linkAt a (last (cellsOf prior)))
-      go (inl e) = subst Unlinked (sym (ap (λ (l : List Card). linkAt a (last (cellsOf l))) e ∙ ap (linkAt a) last-nil ∙ link-first a)) (unlinked-first e)
-      go (inr (xs, z, e)) =
-          let q = unlinked-behind xs z e in
-          subst Unlinked (sym (ap (linkAt a) (ap (λ (l : List Card). last (cellsOf l)) e ∙ ap last (map-append (λ (c : Card). c .at) xs (z ∷ [])) ∙ last-snoc (cellsOf xs) (z .at)) ∙ link-behind a (z .at) (q .0))) (q .1)
+      go (inl e) = subst Unlinked (sym (link-none (λ (c : Card). c .at) prior a e)) (unlinked-first e)
+      go (inr (xs, z, e)) = let q = unlinked-behind xs z e in subst Unlinked (sym (link-last (λ (c : Card). c .at) prior a xs z e (q .0))) (q .1)
 
   -- its cell, now in no chain, is emptied and put before the free ones
 

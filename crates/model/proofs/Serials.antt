@@ -1,6 +1,6 @@
 -- A serial and four words. Packed, a serial is read back (`serial-read`) with zero bytes behind it (`serial-padded`), since each of its
 -- bytes is below 256; and four words whose bytes past the n-th are zero are what their first n bytes pack to (`words-back`), since a word
--- is the sum of its bytes in their places.
+-- is the sum of its bytes in their places, and zero bytes behind a serial pack as if they were not there (`packed-padded`).
 use mathlib.Core.Path.{_≡_, refl, sym, ap, _∙_}
 use mathlib.Core.Logic.{⊎-elim}
 use mathlib.Core.List.{List, [], _∷_, _++_, map}
@@ -109,6 +109,13 @@ padded n l e i =
     (λ (h : n ≤ i). let d : n + (i - n) ≡ i = omega arith in
     past n l i h ∙ sym (ap (λ (m : ℕ). getD l m 0) (sym d) ∙ sym (getD-drop n l (i - n) 0) ∙ zeros (drop n l) e (i - n))) (lt? i n)
 
+-- sixteen bytes pack as the serial that they carry, where those behind it are zero
+pub packed-padded : (n : ℕ) (l : List ℕ) → all (eqb 0) (drop n l) ≡ true → (i : ℕ) → packed (take n l) i ≡ packed l i
+unfolding packed
+packed-padded n l e i =
+    let p = padded n l e in
+    λ t. ((p i t * 256 + p (i + 1) t) * 256 + p (i + 2) t) * 256 + p (i + 3) t
+
 word-of : (x : ℕ) → ((x / 16777216 * 256 + x / 65536 % 256) * 256 + x / 256 % 256) * 256 + x % 256 ≡ x
 word-of x = omega arith
 
@@ -117,9 +124,5 @@ pub words-back : (n w₀ w₁ w₂ w₃ : ℕ) → all (eqb 0) (drop n (unpacked
     × (packed (take n (unpacked w₀ w₁ w₂ w₃)) 8 ≡ w₂) × (packed (take n (unpacked w₀ w₁ w₂ w₃)) 12 ≡ w₃)
 unfolding bytesOf packed
 words-back n w₀ w₁ w₂ w₃ e =
-    let p = padded n (unpacked w₀ w₁ w₂ w₃) e in (
-      (λ i. ((p 0 i * 256 + p 1 i) * 256 + p 2 i) * 256 + p 3 i) ∙ word-of w₀,
-      (λ i. ((p 4 i * 256 + p 5 i) * 256 + p 6 i) * 256 + p 7 i) ∙ word-of w₁,
-      (λ i. ((p 8 i * 256 + p 9 i) * 256 + p 10 i) * 256 + p 11 i) ∙ word-of w₂,
-      (λ i. ((p 12 i * 256 + p 13 i) * 256 + p 14 i) * 256 + p 15 i) ∙ word-of w₃,
-    )
+    let p = packed-padded n (unpacked w₀ w₁ w₂ w₃) e in
+    (p 0 ∙ word-of w₀, p 4 ∙ word-of w₁, p 8 ∙ word-of w₂, p 12 ∙ word-of w₃)

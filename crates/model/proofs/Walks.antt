@@ -1,25 +1,26 @@
 -- Members of a list of cells, and walks by next words. A fact of each element is a fact of each number that stands in the list
 -- (`every-in`, `in-every`). A walk that ends makes the cells that are read on it stand as a chain (`led-stand`), and a chain that stands
--- is such a walk (`stand-led`); a walk that ends within the fuel is what `follow` reads (`led-follow`). Cells that are all in range, none
--- twice, and as many as there are, are each of them exactly once (`marked-once`), by the pigeonhole principle.
+-- is such a walk (`stand-led`). For code that marks the cells it walks through: cells in range, none twice, are no more than there are, so
+-- such a walk is what `follow` reads (`walk-read`); and if they are as many, they are each of them exactly once (`marked-once`), and weigh
+-- what all of them weigh, in whatever order (`once-total`).
 use mathlib.Core.Path.{_≡_, refl, sym, ap, _∙_, subst}
 use mathlib.Core.Logic.{⊎-elim}
 use mathlib.Core.List.{List, [], _∷_, map}
-use mathlib.Core.Bool.{Bool, true, false}
+use mathlib.Core.Bool.{Bool, true, false, not}
 use Prim.Native.Nat.{ℕ, zero, suc, _+_, _-_, _≤_, _<_}
 use native.Mathlib.Nat.{zero-add}
 use native.Mathlib.Omega.{arith}
 use lib.Dec.{eqb}
 use lib.ListN.{length, getD, replicate, length-replicate, getD-replicate}
-use borrow.Author.Tests.{eq-eqb, ne-eqb}
+use borrow.Author.Tests.{eqb-true, eq-eqb, ne-eqb}
 use Rattle.rules.proofs.Tests.{by-cases, both, all-of, eq?, lt?}
-use Rattle.model.specs.Lists.{all, from, join, total}
+use Rattle.model.specs.Lists.{all, keep, from, join, total}
 use Rattle.model.specs.Layout.{Cell, headOr, chained, first, freeCell, follow}
 use Rattle.model.specs.Meaning.{times, In, ExactlyOnce, Leads}
-use Rattle.model.proofs.Lists.{Every}
+use Rattle.model.proofs.Lists.{length-none, keep-keep, keep-drop, Every}
 use Rattle.model.proofs.Tables.{length-table, table-at, table-from}
-use Rattle.model.proofs.Sums.{bit, count, bit-le, bit-same, bit-other, total-join, total-one}
-use Rattle.model.proofs.Each.{many, Each, cover, count-cover, count-full}
+use Rattle.model.proofs.Sums.{bit, count, bit-le, bit-same, bit-other, total-join, total-one, total-keep}
+use Rattle.model.proofs.Each.{many, Each, cover, count-bound, count-cover, count-full}
 use Rattle.model.proofs.Chains.{Memory, Stand}
 
 -- members
@@ -109,16 +110,19 @@ pub led-first : (next : ℕ → ℕ) (h : ℕ) (l : List ℕ) → Leads next h l
 led-first next h [] r = r
 led-first next h (x ∷ l) r = r .0
 
--- a walk that ends within the fuel is what `follow` reads
-pub led-follow : (next : ℕ → ℕ) (fuel h : ℕ) (l : List ℕ) → Leads next h l → ((i : ℕ) → In i l → 1 ≤ i) → length l ≤ fuel → follow fuel next h ≡ l
+pub led-follow : (next : ℕ → ℕ) (fuel h : ℕ) (l : List ℕ) → Leads next h l → Every (λ i. 1 ≤ i) l → length l ≤ fuel → follow fuel next h ≡ l
 unfolding follow
 led-follow next zero h [] r p b = refl
 led-follow next (suc fuel) h [] r p b = rw (eq-eqb h 0 r)
 led-follow next zero h (x ∷ l) r p b = absurd (omega arith)
 led-follow next (suc fuel) h (x ∷ l) r p b =
-    let q = every-in (λ i. 1 ≤ i) (x ∷ l) (in-every (λ i. 1 ≤ i) (x ∷ l) p) in
-    rw (ne-eqb h 0 (omega (arith, r .0, in-every (λ i. 1 ≤ i) (x ∷ l) p .0)), r .0)
-    (ap (λ (l : List ℕ). x ∷ l) (led-follow next fuel (next x) l (r .1) (every-in (λ i. 1 ≤ i) l (in-every (λ i. 1 ≤ i) (x ∷ l) p .1)) (omega arith)))
+    rw (ne-eqb h 0 (omega (arith, r .0, p .0)), r .0) (ap (λ (l : List ℕ). x ∷ l) (led-follow next fuel (next x) l (r .1) (p .1) (omega arith)))
+
+-- a walk that ends, through cells of a part, none of them twice, is what `follow` reads
+pub walk-read : (next : ℕ → ℕ) (n h : ℕ) (l : List ℕ) → Leads next h l → ((i : ℕ) → In i l → (1 ≤ i) × (i ≤ n)) → ((i : ℕ) → times i l ≤ 1) → follow n next h ≡ l
+walk-read next n h l r p o =
+    led-follow next n h l r (in-every (λ i. 1 ≤ i) l (λ i q. p i q .0))
+    (count-bound n l (λ i q. p i (omega (arith, times-count i l))) (λ i. omega (arith, times-count i l, o i)))
 
 -- cell i has the m words that follow the next word of i
 abbrev pub Reads : Memory → ℕ → (ℕ → Cell) → ℕ → Type 0
@@ -197,3 +201,45 @@ once-each n cs l m e r =
       inside = λ i h. inside i (omega (arith, m i));
       count = e ∙ count-full n l inside (λ i a b. sym (times-count i l) ∙ r .once i a b);
     }
+
+-- whatever the cells weigh, in any order
+
+from-last : (f : ℕ → ℕ) (a n : ℕ) → total f (from a (suc n)) ≡ total f (from a n) + f (a + n)
+from-last f a zero = let e : a + 0 ≡ a = omega arith in omega (arith, ap f e)
+from-last f a (suc n) = let e : suc a + n ≡ a + suc n = omega arith in omega (arith, from-last f (suc a) n, ap f e)
+
+kept-total : (f : ℕ → ℕ) (m : ℕ) (l : List ℕ) → times m l ≡ 1 → total f (keep (eqb m) l) ≡ f m
+kept-total f m [] e = absurd (omega arith)
+kept-total f m (x ∷ l) e =
+    by-cases (eqb m x)
+    (λ k. rw (k, length-none (keep (eqb m) l) (omega (arith, rw k at e))) (omega (arith, ap f (eqb-true m x k))))
+    (λ k. rw k (kept-total f m l (rw k at e)))
+
+times-without : (m i : ℕ) (l : List ℕ) → (i ≡ m → ⊥) → times i (keep (λ x. not (eqb m x)) l) ≡ times i l
+times-without m i l d =
+    ap length (keep-keep (eqb i) (λ x. not (eqb m x)) l (λ x e. rw (ne-eqb m x (λ h. d (eqb-true i x e ∙ sym h)))))
+
+times-none : (m : ℕ) (l : List ℕ) → times m (keep (λ x. not (eqb m x)) l) ≡ 0
+times-none m l = ap length (keep-drop (eqb m) (λ x. not (eqb m x)) l (λ x e. rw e))
+
+pub once-total : (n : ℕ) (l : List ℕ) → ExactlyOnce n l → (f : ℕ → ℕ) → total f l ≡ total f (from 1 n)
+once-total zero [] r f = refl
+once-total zero (x ∷ l) r f =
+    let h = r .cells x (omega (arith, times-count x (x ∷ l), bit-same x x refl)) in
+    absurd (omega arith)
+once-total (suc n) l r f =
+    let others = keep (λ x. not (eqb (suc n) x)) l in
+    let fewer : ExactlyOnce n others = record {
+      cells = λ i h. ⊎-elim (λ (e : i ≡ suc n). absurd (omega (arith, ap (λ (j : ℕ). times j others) e, times-none (suc n) l)))
+          (λ (d : i ≡ suc n → ⊥). let (a, b) = r .cells i (omega (arith, times-without (suc n) i l d)) in (a, omega arith)) (eq? i (suc n));
+      once = λ i a b. times-without (suc n) i l (omega arith) ∙ r .once i a (omega arith);
+    } in
+    let e : 1 + n ≡ suc n = omega arith in
+    omega (
+      arith,
+      total-keep f (eqb (suc n)) l,
+      kept-total f (suc n) l (r .once (suc n) (omega arith) (omega arith)),
+      once-total n others fewer f,
+      from-last f 1 n,
+      ap f e,
+    )

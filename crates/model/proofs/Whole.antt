@@ -1,7 +1,8 @@
--- Words in the middle of a change: a front and chains that need not be a store's, each cell in one chain at most. A step is one write,
--- or none: a word of the front, a cell that stands in no chain, a next word that leads elsewhere, another word of a cell, or chains seen
--- otherwise where nothing is written. What is not written stays, so each law has one part that changes. A change of a store is such steps from `rep-whole` to
--- `whole-rep`.
+-- Words in the middle of a change: a front and chains that need not be a store's, each cell in one chain at most. A step is one write, or
+-- none: a word of the front, a cell that stands in no chain, a next word that leads elsewhere, another word of a cell, or chains seen
+-- otherwise where nothing is written. What is not written stays, so each law has one part that changes, and a change of a store is such
+-- steps from `rep-whole` to `whole-rep`. Behind the steps: the front with one word set, the histories of cards, the first free cell taken
+-- out of its chain, and where the end of a chain is written.
 use mathlib.Core.Path.{_≡_, refl, sym, ap, _∙_, subst}
 use mathlib.Core.Logic.{_⊎_, inl, inr}
 use mathlib.Core.List.{List, [], _∷_, _++_, map, append-nil, append-assoc}
@@ -22,7 +23,7 @@ use Rattle.model.proofs.Each.{many, Each}
 use Rattle.model.proofs.Places.{cellAt-from, cellAt-below, cellAt-end}
 use Rattle.model.proofs.Chains.{Stands, Stand, stand-frame, many-chained}
 use Rattle.model.proofs.Part.{cellIn, Held}
-use Rattle.model.proofs.Writes.{Apart, sets-out, take-sets, held-set, held-write, held-cut, held-word, held-behind, y-in}
+use Rattle.model.proofs.Writes.{Apart, sets-out, write-cell, take-sets, held-set, held-write, held-cut, held-word, held-behind, y-in}
 use Rattle.model.proofs.Fair.{Fair}
 use Rattle.model.proofs.Rep.{Rep}
 use Rattle.model.proofs.Decode.{head-free}
@@ -160,6 +161,14 @@ module _ (w : List ℕ) (c f : ℕ) (fr : List ℕ) (cs fs : List (List Cell)) (
       faults-write (sets w p vs) fs (length-sets w p vs) (take-sets cardsAt vs w p (omega (arith, cellAt-from (faultsAt c) faultWidth i 0)))
       (λ m h. sets-out vs w p m (inl (omega (arith, cellAt-from (faultsAt c) faultWidth i 0)))) (r .faultsApart)
       (held-write w (faultsAt c) faultWidth f fs faults-fit (r .faultsApart) (r .faults) i vs a l z)
+
+  -- one word of such a cell
+  pub card-loose : (i k v : ℕ) → 1 ≤ i → i ≤ c → k < cardWidth → many i (join cs) ≡ 0 → Whole (set w (cellAt cardsAt cardWidth i k) v) c f fr cs fs
+  card-loose i k v a b l z =
+      card-set i k v cs a b l (r .cardsApart) λ j.
+      stand-frame cardWidth (cellIn (set w (cellAt cardsAt cardWidth i k) v) cardsAt cardWidth) (cellIn w cardsAt cardWidth) (chained 0 (getD cs j []))
+      (λ x m p q. let h : 0 < many x (join cs) = omega (arith, many-chained 0 x (getD cs j []), total-one (λ c. bit (eqb x (c .at))) cs j) in
+      write-cell w cardsAt cardWidth i x k m v a (r .cardsApart .inside x h .0) l q (λ e. let g : many x (join cs) ≡ 0 = ap (λ (y : ℕ). many y (join cs)) e ∙ z in omega arith)) (r .cards j)
 
   -- nothing is written, and chain a is seen to be another one
   pub card-chain : (a : ℕ) (ch : List Cell) → a < length cs → Apart c (join (set cs a ch)) → Stand (cellIn w cardsAt cardWidth) cardWidth (chained 0 ch)
@@ -330,6 +339,12 @@ module _ (w : List ℕ) (base width n : ℕ) (free : List ℕ) (others : List (L
   unfolding freeCell
   taken-next = taken-stand .0 0 z ∙ sym (head-free width (drop 1 free))
 
+last-snoc : (l : List ℕ) (x : ℕ) → last (l ++ (x ∷ [])) ≡ x
+unfolding last
+last-snoc [] x = refl
+last-snoc (y ∷ []) x = refl
+last-snoc (y ∷ z ∷ l) x = last-snoc (z ∷ l) x
+
 -- the end of a chain: none, or a last cell, behind which the next one is linked
 module _ {A : Type 0} where
   pub ends : (l : List A) → (l ≡ []) ⊎ ((xs : List A) × (x : A) × (l ≡ xs ++ (x ∷ [])))
@@ -340,20 +355,18 @@ module _ {A : Type 0} where
       go (inl e) = inr ([], x, ap (λ (m : List A). x ∷ m) e)
       go (inr (xs, z, e)) = inr (x ∷ xs, z, ap (λ (m : List A). x ∷ m) e)
 
-pub last-nil : last [] ≡ 0
-unfolding last
-last-nil = refl
+  module _ (at : A → ℕ) (l : List A) where
+    pub last-none : l ≡ [] → last (map at l) ≡ 0
+    unfolding last
+    last-none e = ap (λ (l : List A). last (map at l)) e
 
-pub last-snoc : (l : List ℕ) (x : ℕ) → last (l ++ (x ∷ [])) ≡ x
-unfolding last
-last-snoc [] x = refl
-last-snoc (y ∷ []) x = refl
-last-snoc (y ∷ z ∷ l) x = last-snoc (z ∷ l) x
+    pub last-at : (xs : List A) (x : A) → l ≡ xs ++ (x ∷ []) → last (map at l) ≡ at x
+    last-at xs x e = ap (λ (l : List A). last (map at l)) e ∙ ap last (map-append at xs (x ∷ [])) ∙ last-snoc (map at xs) (at x)
 
-pub link-first : (b : ℕ) → linkAt b 0 ≡ segmentsAt + b
-unfolding linkAt
-link-first b = refl
+    pub link-none : (b : ℕ) → l ≡ [] → linkAt b (last (map at l)) ≡ segmentsAt + b
+    unfolding linkAt
+    link-none b e = ap (linkAt b) (last-none e)
 
-pub link-behind : (b i : ℕ) → 1 ≤ i → linkAt b i ≡ cardAt i 0
-unfolding linkAt
-link-behind b i h = rw (ne-eqb i 0 (omega arith))
+    pub link-last : (b : ℕ) (xs : List A) (x : A) → l ≡ xs ++ (x ∷ []) → 1 ≤ at x → linkAt b (last (map at l)) ≡ cardAt (at x) 0
+    unfolding linkAt
+    link-last b xs x e h = ap (linkAt b) (last-at xs x e) ∙ rw (ne-eqb (at x) 0 (omega arith))

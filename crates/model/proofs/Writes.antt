@@ -1,20 +1,19 @@
 -- What a write to words does to the cells that stand in them, and the changes of chains that code makes.
 use mathlib.Core.Path.{_≡_, refl, sym, ap, _∙_, subst}
-use mathlib.Core.Logic.{_⊎_, inl, inr, ⊎-elim, _↔_}
-use mathlib.Core.List.{List, [], _∷_, _++_, map, append-nil}
-use mathlib.Core.Bool.{Bool, true, false}
-use Prim.Native.Nat.{ℕ, zero, suc, _+_, _-_, _*_, _≤_, _<_}
+use mathlib.Core.Logic.{_⊎_, inl, inr, ⊎-elim}
+use mathlib.Core.List.{List, [], _∷_, _++_, append-nil}
+use Prim.Native.Nat.{ℕ, zero, suc, _+_, _*_, _≤_, _<_}
 use native.Mathlib.Omega.{arith}
 use lib.Dec.{eqb}
 use lib.ListN.{length, getD, set, take, length-set}
-use lib.Seq.{getD-set-same, getD-set-other, take-set-le, sets, length-sets}
-use Rattle.model.specs.Lists.{join, total}
+use lib.Seq.{getD-set-same, getD-set-other, take-set-le, sets}
+use Rattle.model.specs.Lists.{join}
 use Rattle.model.specs.Layout.{Cell, headOr, chained, cellAt}
 use Rattle.rules.proofs.Tests.{eq?}
 use Rattle.model.proofs.Sums.{bit, bit-same, bit-other, total-append, total-one, total-two}
-use Rattle.model.proofs.Each.{many, Each}
-use Rattle.model.proofs.Places.{cellAt-from, cellAt-below, cellAt-word, cellAt-cell, cellAt-outside, cellAt-plus}
-use Rattle.model.proofs.Chains.{Memory, Stands, Stand, stand-frame, stand-append, stand-parts, many-chained, chained-append, chain-retarget}
+use Rattle.model.proofs.Each.{many}
+use Rattle.model.proofs.Places.{cellAt-below, cellAt-word, cellAt-cell, cellAt-outside, cellAt-plus}
+use Rattle.model.proofs.Chains.{Stands, Stand, stand-frame, stand-append, stand-parts, many-chained, chained-append, chain-retarget}
 use Rattle.model.proofs.Part.{cellIn, Held}
 
 -- a run of stores
@@ -75,11 +74,6 @@ held-set new base width chains a c h f r j =
     ⊎-elim (λ (e : j ≡ a). subst (λ (j : ℕ). Stand (cellIn new base width) width (chained 0 (getD (set chains a c) j []))) (sym e) (rw (getD-set-same chains a c []) r))
     (λ (d : j ≡ a → ⊥). rw (getD-set-other chains a j c [] d) (f j d)) (eq? j a)
 
--- POP: the first cell of the first chain is left free to be written
-pub held-pop : (w : List ℕ) (base width : ℕ) (c : Cell) (cs : List Cell) (rest : List (List Cell)) → Held w base width ((c ∷ cs) ∷ rest) → Held w base width (cs ∷ rest)
-held-pop w base width c cs rest r zero = r 0 .1
-held-pop w base width c cs rest r (suc j) = r (suc j)
-
 module _ (w : List ℕ) (base width n : ℕ) (chains : List (List Cell)) (fits : base + width * n ≤ length w) (e : Apart n (join chains)) (r : Held w base width chains) where
   -- a cell that stands in no chain is written
   pub held-write : (i : ℕ) (vs : List ℕ) → 1 ≤ i → length vs ≡ width → many i (join chains) ≡ 0 → Held (sets w (cellAt base width i 0) vs) base width chains
@@ -87,20 +81,6 @@ module _ (w : List ℕ) (base width n : ℕ) (chains : List (List Cell)) (fits :
       stand-frame width (cellIn (sets w (cellAt base width i 0) vs) base width) (cellIn w base width) (chained 0 (getD chains j []))
       (λ x k p q. let m : 0 < many x (join chains) = omega (arith, many-chained 0 x (getD chains j []), total-one (λ c. bit (eqb x (c .at))) chains j) in
       cell-other w base width i x k vs a (e .inside x m .0) q l (λ d. let g : many x (join chains) ≡ 0 = ap (λ (y : ℕ). many y (join chains)) d ∙ z in omega arith)) (r j)
-
-  -- PUSH: a cell that stands in no chain and is written as the end of one is put behind the empty chain a
-  pub held-first : (a : ℕ) (c : Cell) → a < length chains → Stands (cellIn w base width) width (record { at = c .at; words = 0 ∷ c .words })
-      → Held w base width (set chains a (c ∷ []))
-  held-first a c h q = held-set w base width chains a (c ∷ []) h (λ j d. r j) (q, tt)
-
-  -- a cell in no chain that leads to the head of chain a is put before it
-  pub held-before : (a : ℕ) (c : Cell) → a < length chains → Stands (cellIn w base width) width (record { at = c .at; words = headOr 0 (getD chains a []) ∷ c .words })
-      → Held w base width (set chains a (c ∷ getD chains a []))
-  held-before a c h q = held-set w base width chains a (c ∷ getD chains a []) h (λ j d. r j) (q, r a)
-
-  -- the first cell of chain a is left out
-  pub held-tail : (a : ℕ) (c : Cell) (cs : List Cell) → a < length chains → getD chains a [] ≡ c ∷ cs → Held w base width (set chains a cs)
-  held-tail a c cs h g = held-set w base width chains a cs h (λ j d. r j) (subst (λ (l : List Cell). Stand (cellIn w base width) width (chained 0 l)) g (r a) .1)
 
   -- a write to a cell y of chain a
   module _ (a : ℕ) (xs : List Cell) (y : Cell) (ys : List Cell) (h : a < length chains) (g : getD chains a [] ≡ xs ++ (y ∷ []) ++ ys) where

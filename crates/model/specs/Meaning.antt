@@ -119,7 +119,7 @@ pub record Sound (w : List ℕ) : Type 0 where
   pub freeZero : (i k : ℕ) → In i (freeCells w) → 1 ≤ k → k < cardWidth → cardWord w i k ≡ 0
   pub freeFaultsZero : (i k : ℕ) → In i (freeFaultCells w) → 1 ≤ k → k < faultWidth → faultWord w i k ≡ 0
   pub unusedZero : (b : ℕ) → bucketsIn w ≤ b → b < top → bucketWord w b ≡ 0
-  -- counts and last-fault words are true
+  -- counts and last-fault words are true; with no faults `historyChain` and these make a card's last three words 0
   pub cardsHeld : getD w 5 0 ≡ length (heldCells w)
   pub faultsHeld : getD w 6 0 ≡ length (filedCells w)
   pub serialLengths : (i : ℕ) → In i (heldCells w) → cardWord w i 1 ≡ length (serialIn w i)

@@ -1,14 +1,17 @@
 -- What the accepted calls write, as functions on the words: runs of single writes in the order in which code makes them. Where nothing
 -- else is said they read the words as they were found. That each leaves the words of the changed store is shown in proofs/ (Place, File,
--- Remove, Part, Join).
-use Prim.Native.Nat.{ℕ, zero, suc, _+_, _-_}
+-- Remove, Split, Join, and Changes for the last three).
+use Prim.Native.Nat.{ℕ, zero, suc, _+_, _-_, _*_, _/_, _%_}
 use mathlib.Core.List.{List, [], _∷_}
-use mathlib.Core.Bool.{cond}
+use mathlib.Core.Bool.{Bool, cond}
 use lib.Dec.{eqb}
 use lib.ListN.{length, getD, set, replicate}
 use lib.Seq.{sets}
-use Rattle.model.specs.Layout.{segmentsAt, cardWidth, faultWidth, cardsAt, faultsAt, packed, cellAt, cardWord, faultWord}
-use Rattle.model.specs.Meaning.{limitIn, faultLimitIn}
+use Rattle.rules.specs.Code.{codeOf}
+use Rattle.rules.specs.Table.{addressOf, splits, contracts, highMaxp, highP, lowMaxp, lowP}
+use Rattle.model.specs.Lists.{same, keep}
+use Rattle.model.specs.Layout.{directoryAt, segmentsAt, segmentSize, cardWidth, faultWidth, cardsAt, faultsAt, first, last, packed, cellAt, cardWord, faultWord}
+use Rattle.model.specs.Meaning.{limitIn, faultLimitIn, bucketsIn, bucketWord, bucketCells, serialIn}
 
 -- where word k of a card cell stands, and of a fault cell in a store of c cards
 abbrev pub cardAt : ℕ → ℕ → ℕ
@@ -71,3 +74,79 @@ removeWords w b h i =
     let freed = set emptied 7 i in
     let counted = set freed 5 (getD w 5 0 - 1) in
     set counted 6 (getD w 6 0 - cardWord w i 8)
+
+-- bucket n appears, and goes: its segment is taken, and freed, with its first bucket
+unfoldable pub openWords : List ℕ → ℕ → List ℕ
+openWords w n = cond (eqb (n % segmentSize) 0) (set w (directoryAt + n / segmentSize) (segmentsAt + n)) w
+
+unfoldable pub closeWords : List ℕ → ℕ → List ℕ
+closeWords w n = cond (eqb (n % segmentSize) 0) (set w (directoryAt + n / segmentSize) 0) w
+
+-- the card in cell i goes to the new bucket maxp + p
+unfoldable pub movesAt : List ℕ → ℕ → ℕ → ℕ → Bool
+movesAt w maxp p i = eqb (codeOf (serialIn w i) % (2 * maxp)) (maxp + p)
+
+-- the cells from x on go one by one behind the last cell k of bucket p's chain, or g of the new one's; then both chains are ended.
+-- Each step reads the words as the steps before it left them
+unfoldable pub partWords : ℕ → ℕ → ℕ → List ℕ → ℕ → ℕ → ℕ → List ℕ
+partWords zero maxp p w k g x = set (set w (linkAt p k) 0) (linkAt (maxp + p) g) 0
+partWords (suc fuel) maxp p w k g x =
+    let ended = set (set w (linkAt p k) 0) (linkAt (maxp + p) g) 0 in
+    let goes = partWords fuel maxp p (set w (linkAt (maxp + p) g) x) k x (cardWord w x 0) in
+    let stays = partWords fuel maxp p (set w (linkAt p k) x) x g (cardWord w x 0) in
+    cond (eqb x 0) ended (cond (movesAt w maxp p x) goes stays)
+
+-- one bucket more
+unfoldable pub splitWords : List ℕ → List ℕ
+splitWords w =
+    let maxp = getD w 3 0 in
+    let p = getD w 4 0 in
+    let parted = partWords (limitIn w) maxp p w 0 0 (bucketWord w p) in
+    let opened = openWords parted (maxp + p) in
+    let sized = set opened 3 (highMaxp maxp p) in
+    set sized 4 (highP maxp p)
+
+-- one bucket more if the load asks for it
+unfoldable pub growWords : List ℕ → List ℕ
+growWords w = cond (splits (getD w 5 0) (bucketsIn w)) (splitWords w) w
+
+-- one bucket less: the last bucket's chain goes behind the last cell k of the chain that it was split from
+unfoldable pub joinWords : List ℕ → ℕ → List ℕ
+joinWords w k =
+    let maxp = getD w 3 0 in
+    let p = getD w 4 0 in
+    let going = maxp + p - 1 in
+    let joined = set w (linkAt (lowP maxp p) k) (bucketWord w going) in
+    let emptied = set joined (segmentsAt + going) 0 in
+    let closed = closeWords emptied going in
+    let sized = set closed 3 (lowMaxp maxp p) in
+    set sized 4 (lowP maxp p)
+
+-- one bucket less if the load asks for it
+unfoldable pub shrinkWords : List ℕ → List ℕ
+shrinkWords w = cond (contracts (getD w 5 0) (bucketsIn w)) (joinWords w (last (bucketCells w (lowP (getD w 3 0) (getD w 4 0))))) w
+
+-- the accepted calls, from the words and the serial alone
+
+-- a serial's bucket and chain; the cells before the card that has the serial, and that card's cell
+unfoldable pub bucketFor : List ℕ → List ℕ → ℕ
+bucketFor w y = addressOf (codeOf y) (getD w 3 0) (getD w 4 0)
+
+unfoldable pub cellsFor : List ℕ → List ℕ → List ℕ
+cellsFor w y = bucketCells w (bucketFor w y)
+
+unfoldable pub beforeIn : List ℕ → List ℕ → List ℕ → List ℕ
+beforeIn w y [] = []
+beforeIn w y (i ∷ l) = cond (same y (serialIn w i)) [] (i ∷ beforeIn w y l)
+
+unfoldable pub foundIn : List ℕ → List ℕ → List ℕ → List ℕ
+foundIn w y l = keep (λ i. same y (serialIn w i)) l
+
+unfoldable pub enterWords : List ℕ → List ℕ → List ℕ
+enterWords w y = growWords (placeWords w (bucketFor w y) (last (cellsFor w y)) y)
+
+unfoldable pub noteWords : List ℕ → List ℕ → ℕ → ℕ → List ℕ
+noteWords w y day code = fileWords w (first (foundIn w y (cellsFor w y))) day code
+
+unfoldable pub withdrawWords : List ℕ → List ℕ → List ℕ
+withdrawWords w y = shrinkWords (removeWords w (bucketFor w y) (last (beforeIn w y (cellsFor w y))) (first (foundIn w y (cellsFor w y))))

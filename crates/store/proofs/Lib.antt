@@ -3,6 +3,8 @@ pub mod Rows
 pub mod SerialLaws
 pub mod CellLaws
 pub mod FrontLaws
+-- Laws of what the writers did
+pub mod WriteLaws
 -- Laws of marks and of walks, that know nothing of cards
 pub mod MarkLaws
 pub mod WalkLaws
@@ -21,12 +23,23 @@ pub mod PartsSound
 pub mod SoundParts
 pub mod Decides
 pub mod AlongLaws
+pub mod ClearLaws
 -- Laws of the search, of the words of a store as they are read, and of what is found there
 pub mod SearchLaws
 pub mod StoredLaws
 pub mod FindLaws
 -- What the contracts admit
 pub mod OneOutcome
+pub mod ProgramDemands
 pub mod ShowLaws
+-- The plans of calls, the changes that they make, and the calls
+pub mod PlanLaws
+pub mod MakeLaws
+pub mod CallLaws
 -- What Open writes
 pub mod FreshLaws
+-- Laws of chains that end, cell by cell, of a chain parted in two, and of the table grown and shrunk
+pub mod EndsLaws
+pub mod PartingLaws
+pub mod TableLaws
+pub mod GrowLaws

@@ -1,26 +1,16 @@
 -- The contract of each call admits one outcome only: all that it speaks of is fixed by equations, so two programs that meet it give the same
--- four numbers and leave the same words, room and scratch.
+-- numbers and leave the same words, room and scratch.
 use mathlib.Core.Path.{_≡_, sym, _∙_}
 use mathlib.Core.List.{List}
 use Prim.Native.Nat.{ℕ}
-use Rattle.model.specs.Calls.{Answer, Outcome, Step, Opened}
-use Rattle.store.specs.Leaves.{Gives, Leaves, Does, Opens}
+use Rattle.model.specs.Calls.{Opened}
+use Rattle.model.specs.Runs.{Act, Call.acting}
+use Rattle.store.specs.Leaves.{Opens}
+use Rattle.store.specs.Sequences.{Given, Meets}
 
--- all that a call gives and leaves
-pub record Left : Type 0 where
-  pub number : ℕ
-  pub comparisons : ℕ
-  pub scanned : ℕ
-  pub faults : ℕ
-  pub words : List ℕ
-  pub room : List ℕ
-  pub scratch : List ℕ
-
-abbrev pub Meets : Outcome → Left → Type 0
-Meets o l = Leaves o (l .number) (l .comparisons) (l .scanned) (l .faults) (l .words) (l .room) (l .scratch)
-
-pub one-outcome : (o : Outcome) (a b : Left) → Meets o a → Meets o b → a ≡ b
-one-outcome o a b p q = λ i.
+-- Enter, File, Show and Withdraw
+pub one-outcome : (w scratch : List ℕ) (act : Act) (a b : Given) → Meets w (acting scratch act) a → Meets w (acting scratch act) b → a ≡ b
+one-outcome w scratch act a b p q = λ i.
     record {
       number = (p .answer .number-is ∙ sym (q .answer .number-is)) i;
       comparisons = (p .answer .comparisons-are ∙ sym (q .answer .comparisons-are)) i;
@@ -31,6 +21,6 @@ one-outcome o a b p q = λ i.
       scratch = (p .scratch-is ∙ sym (q .scratch-is)) i;
     }
 
--- Open: its number and the words
-pub open-one : {o : Opened} {n m : ℕ} {w v : List ℕ} → Opens o n w → Opens o m v → (n ≡ m) × (w ≡ v)
-open-one p q = (p .number-is ∙ sym (q .number-is), p .words-are ∙ sym (q .words-are))
+-- Open
+pub one-opening : (o : Opened) {m n : ℕ} {v w : List ℕ} → Opens o m v → Opens o n w → (m ≡ n) × (v ≡ w)
+one-opening o p q = (p .number-is ∙ sym (q .number-is), p .words-are ∙ sym (q .words-are))

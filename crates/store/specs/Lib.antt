@@ -5,5 +5,8 @@ pub mod Walk
 pub mod Checker
 pub mod Leaves
 pub mod Plans
+pub mod Sequences
 pub mod Search
+pub mod Writes
 pub mod Fresh
+pub mod Table

@@ -1,10 +1,20 @@
--- What Enter and Withdraw will scan, read off the store before they change it.
-use mathlib.Core.Bool.{cond}
-use Prim.Native.Nat.{ℕ, _+_, _-_}
+-- A call on a sound store before it changes anything: what Enter and Withdraw will scan, and a plan, which is the answer with the places in
+-- the store that the change will touch.
+use mathlib.Core.Path.{_≡_}
+use mathlib.Core.Bool.{true, cond}
+use mathlib.Core.List.{List}
+use Prim.Native.Nat.{ℕ, _+_, _-_, _*_, _≤_}
 use lib.Dec.{eqb}
-use lib.ListN.{length}
+use lib.ListN.{length, take}
 use Rattle.rules.specs.Table.{splits, contracts}
-use Rattle.model.specs.Model.{Store, held, size, bucket}
+use Rattle.model.specs.Serial.{validSerial}
+use Rattle.model.specs.Model.{Store, held, size, bucket, addressIn, chainFor, found, before, cellsOf, historyIn}
+use Rattle.model.specs.Layout.{first, last, encode}
+use Rattle.model.specs.Calls.{Answer, Step, written, fileStep}
+use Rattle.store.specs.Leaves.{Gives}
+use Rattle.store.specs.declared.Answer as given
+use Rattle.store.specs.declared.plans.Plan.{Plan}
+use Rattle.store.specs.declared.search.Spot.{Spot}
 
 -- with one card more in bucket b: the length of bucket p, if that load splits it
 unfoldable pub growScan : Store → ℕ → ℕ
@@ -13,3 +23,59 @@ growScan s b = cond (splits (held s + 1) (size s)) (length (bucket s (s .p)) + c
 -- with one card less in bucket b: the length of the last bucket, if that load joins it
 unfoldable pub shrinkScan : Store → ℕ → ℕ
 shrinkScan s b = cond (contracts (held s - 1) (size s)) (length (bucket s (size s - 1)) - cond (eqb b (size s - 1)) 1 0) 0
+
+-- a plan that refuses, with no place; and one that goes ahead at a spot
+abbrev pub refusal : ℕ → ℕ → ℕ → Plan
+refusal number place faults = record { number = number; comparisons = place; scanned = 0; faults = faults; bucket = 0; cell = 0; prev = 0 }
+
+abbrev pub ahead : Spot → ℕ → ℕ → Plan
+ahead o scanned faults = record { number = 0; comparisons = o .place; scanned = scanned; faults = faults; bucket = o .bucket; cell = o .cell; prev = o .prev }
+
+-- the answer that a plan has
+abbrev pub answered : Plan → given.Answer
+answered r = record { number = r .number; comparisons = r .comparisons; scanned = r .scanned; faults = r .faults }
+
+-- the places of a valid serial: its bucket, the cell of its card or 0, and the cell before that, which is the chain's last where no card has
+-- the serial
+pub record Places (s : Store) (bytes : List ℕ) (n : ℕ) (r : Plan) : Type 0 where
+  pub valid : validSerial bytes n ≡ true
+  pub bucket-is : r .bucket ≡ addressIn s (take n bytes)
+  pub cell-is : r .cell ≡ first (cellsOf (found (take n bytes) (chainFor s (take n bytes))))
+  pub prev-is : r .prev ≡ last (cellsOf (before (take n bytes) (chainFor s (take n bytes))))
+
+-- a plan for the first n of some bytes: the four numbers of an answer, and the places where it refuses nothing
+pub record Plans (a : Answer) (s : Store) (bytes : List ℕ) (n : ℕ) (r : Plan) : Type 0 where
+  pub answer : Gives a (r .number) (r .comparisons) (r .scanned) (r .faults)
+  pub places : r .number ≡ 0 → Places s bytes n r
+
+-- the same with any room of so many words: it enters the answer by its length alone
+pub record PlansFor (step : List ℕ → Step) (room : ℕ) (s : Store) (bytes : List ℕ) (n : ℕ) (r : Plan) : Type 0 where
+  pub with-room : (given : List ℕ) → length given ≡ room → Plans (step given .answer) s bytes n r
+
+-- File of a serial, as a step that takes a room and leaves it alone
+abbrev pub fileWith : Store → ℕ → ℕ → List ℕ → ℕ → List ℕ → Step
+fileWith s day code bytes n room = fileStep s bytes n day code
+
+-- a plan that goes ahead, of some serial and some room
+pub record Ready (step : List ℕ → ℕ → List ℕ → Step) (s : Store) (r : Plan) : Type 0 where
+  pub bytes : List ℕ
+  pub n : ℕ
+  pub room : List ℕ
+  pub plan : Plans (step bytes n room .answer) s bytes n r
+  pub done : r .number ≡ 0
+
+-- the words left follow a plan: they are those of the step's store, whichever serial and room the plan is of
+pub record Follows (step : List ℕ → ℕ → List ℕ → Step) (s : Store) (r : Plan) (words : List ℕ) : Type 0 where
+  pub leaves : (bytes : List ℕ) (n : ℕ) (room : List ℕ) → Plans (step bytes n room .answer) s bytes n r → words ≡ encode (step bytes n room .store)
+
+-- a plan's cell is that of a card, whose pairs a room holds
+pub record Holds (s : Store) (r : Plan) (room : List ℕ) : Type 0 where
+  pub bytes : List ℕ
+  pub n : ℕ
+  pub places : Places s bytes n r
+  pub one : length (found (take n bytes) (chainFor s (take n bytes))) ≡ 1
+  pub wide : 2 * length (historyIn s (take n bytes)) ≤ length room
+
+-- the pairs of that card stand in the room, whichever serial has these places
+pub record Paired (s : Store) (r : Plan) (room left : List ℕ) : Type 0 where
+  pub pairs-are : (bytes : List ℕ) (n : ℕ) → Places s bytes n r → length (found (take n bytes) (chainFor s (take n bytes))) ≡ 1 → left ≡ written (historyIn s (take n bytes)) room

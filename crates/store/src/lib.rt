@@ -1,20 +1,27 @@
 // The store of cards: Open, the four calls, and the checker of soundness.
 ghost use mathlib.Core.Path.{_≡_};
+ghost use mathlib.Core.List.{[]};
 ghost use Prim.Native.Nat.{_≤_};
 ghost use lib.ListN.{length};
 ghost use Rattle.model.specs.Layout.{sound};
-ghost use Rattle.model.specs.Calls.{scratchNeed, cleaned, openCall};
-ghost use Rattle.store.specs.Leaves.{Opens};
+ghost use Rattle.model.specs.Calls.{scratchNeed, cleaned, openCall, enterCall, fileCall, showCall, withdrawCall};
+ghost use Rattle.store.specs.Leaves.{Leaves, Opens};
 
 mod cells;
+pub mod enters;
+pub mod files;
 mod fresh;
 mod front;
 mod marks;
 mod parts;
+pub mod plans;
 mod search;
 mod serial;
-mod show;
+pub mod shows;
+mod table;
 mod walks;
+pub mod withdraws;
+mod writes;
 
 // What each of the four calls gives.
 pub struct Answer {
@@ -49,4 +56,87 @@ pub fn check(words: &[u32], scratch: &mut [u8]) -> bool
     let ok = parts::all_fit(words, scratch);
     marks::clear(scratch);
     ok
+}
+
+// The answer of a call that is refused before it looks at the serial.
+fn turned_away(number: u32) -> Answer
+    ensures { λ r. ⌜ (r .number ≡ number) × (r .comparisons ≡ 0) × (r .scanned ≡ 0) × (r .faults ≡ 0) ⌝ }
+{
+    Answer {
+        number,
+        comparisons: 0,
+        scanned: 0,
+        faults: 0,
+    }
+}
+
+// Enters a card with this serial, at the end of its bucket's chain.
+pub fn enter(words: &mut [u32], scratch: &mut [u8], serial: [u8; 16], len: usize) -> Answer
+    ensures { λ r. ⌜ Leaves (enterCall (now (words .entry)) (now (scratch .entry)) serial len) (r .number) (r .comparisons) (r .scanned) (r .faults) (now (words .exit)) [] (now (scratch .exit)) ⌝ }
+{
+    if scratch.len() < marks::NEED {
+        return turned_away(11);
+    }
+    if !check(words, scratch) {
+        return turned_away(3);
+    }
+    enters::enter_in(words, serial, len)
+}
+
+// Adds a fault to the history of the card with this serial.
+pub fn file(
+    words: &mut [u32],
+    scratch: &mut [u8],
+    serial: [u8; 16],
+    len: usize,
+    day: u32,
+    code: u32,
+) -> Answer
+    ensures { λ r. ⌜ Leaves (fileCall (now (words .entry)) (now (scratch .entry)) serial len day code) (r .number) (r .comparisons) (r .scanned) (r .faults) (now (words .exit)) [] (now (scratch .exit)) ⌝ }
+{
+    if scratch.len() < marks::NEED {
+        return turned_away(11);
+    }
+    if !check(words, scratch) {
+        return turned_away(3);
+    }
+    files::file_in(words, serial, len, day, code)
+}
+
+// Writes the history of the card with this serial into the room, day and code per fault; the words stay.
+pub fn show(
+    words: &[u32],
+    scratch: &mut [u8],
+    serial: [u8; 16],
+    len: usize,
+    room: &mut [u32],
+) -> Answer
+    ensures { λ r. ⌜ Leaves (showCall (now (words .entry)) (now (scratch .entry)) serial len (now (room .entry))) (r .number) (r .comparisons) (r .scanned) (r .faults) (now (words .entry)) (now (room .exit)) (now (scratch .exit)) ⌝ }
+{
+    if scratch.len() < marks::NEED {
+        return turned_away(11);
+    }
+    if !check(words, scratch) {
+        return turned_away(3);
+    }
+    shows::show_in(words, serial, len, room)
+}
+
+// Writes the history of the card with this serial into the room, as Show does, and removes the card.
+pub fn withdraw(
+    words: &mut [u32],
+    scratch: &mut [u8],
+    serial: [u8; 16],
+    len: usize,
+    room: &mut [u32],
+) -> Answer
+    ensures { λ r. ⌜ Leaves (withdrawCall (now (words .entry)) (now (scratch .entry)) serial len (now (room .entry))) (r .number) (r .comparisons) (r .scanned) (r .faults) (now (words .exit)) (now (room .exit)) (now (scratch .exit)) ⌝ }
+{
+    if scratch.len() < marks::NEED {
+        return turned_away(11);
+    }
+    if !check(words, scratch) {
+        return turned_away(3);
+    }
+    withdraws::withdraw_in(words, serial, len, room)
 }

@@ -1,0 +1,237 @@
+-- Plans of calls on sound words. The header's words and the buckets' chains are what the store has (`size-room`, `held-word`, `bucket-length`
+-- ..), so a scan read off the words is the store's (`grow-none`, `grow-some`, `shrink-none`, `shrink-some`); and each way out of a plan gives
+-- the numbers of its step: `enter-..`, `file-..`, `pairs-..` for Show, and `withdraw-..`, which go by the plan of Show.
+use mathlib.Core.Path.{_≡_, refl, sym, ap, _∙_}
+use mathlib.Core.Bool.{true, false, cond}
+use mathlib.Core.List.{List}
+use Prim.Native.Nat.{ℕ, suc, _+_, _-_, _*_, _≤_, _<_}
+use native.Mathlib.Omega.{arith}
+use lib.Dec.{eqb, ltb}
+use lib.ListN.{length, take, getD, length-map}
+use borrow.Author.Tests.{eq-eqb, ne-eqb, lt-ltb, le-ltb}
+use Rattle.rules.specs.Table.{top, splits, contracts}
+use Rattle.rules.proofs.Tests.{by-cases}
+use Rattle.rules.proofs.States.{State, state-of, size-low}
+use Rattle.model.specs.Serial.{validSerial, validFault}
+use Rattle.model.specs.Model.{Store, Card, held, faultsHeld, size, bucket, chainFor, found, historyIn, removed, contractScan}
+use Rattle.model.specs.Layout.{segmentsAt, mostCards, mostFaults, follow, cardWord, decode, sound}
+use Rattle.model.specs.Meaning.{nextCard, nextFault}
+use Rattle.model.specs.Calls.{Answer, gives, enterStep, fileStep, showStep, withdrawStep}
+use Rattle.model.proofs.Readings.{held-at, faults-held-at}
+use Rattle.model.proofs.Sound.{sound-is, sound-good}
+use Rattle.model.proofs.Fair.{Good}
+use Rattle.model.proofs.Cases.{cards-fit}
+use Rattle.model.proofs.Numbers.{show-numbers}
+use Rattle.store.specs.Cells.{Read}
+use Rattle.store.specs.Search.{Ends, Finds}
+use Rattle.store.specs.Plans.{growScan, shrinkScan, refusal, ahead, Plans, PlansFor}
+use Rattle.store.specs.declared.plans.Plan.{Plan}
+use Rattle.store.specs.declared.search.Spot.{Spot}
+use Rattle.store.proofs.AlongLaws.{follow-length}
+use Rattle.store.proofs.StoredLaws.{bucket-ends, bucket-cells, read-store}
+use Rattle.store.proofs.ScanLaws.{grow-scan, shrink-scan}
+use Rattle.store.proofs.FindLaws.{not-held, is-held, HeldCell}
+use Rattle.store.proofs.ShowLaws.{faults-long}
+
+module _ {w : List ℕ} (e : sound w ≡ true) {c f m p : ℕ} (h : Read w c f m p) where
+  -- the header
+
+  state-is : State m p
+  state-is = state-of m p (rw (read-store h .2, read-store h .3) at (sound-is w e .0 .fair .state))
+
+  pub size-room : (16 ≤ m + p) × (m + p ≤ top) × (p < m)
+  size-room = (omega (arith, size-low (state-is .size)), state-is .room, state-is .below)
+
+  pub held-word : getD w 5 0 ≡ held (decode w)
+  held-word = held-at w (decode w) (sound-is w e .0)
+
+  pub filed-word : getD w 6 0 ≡ faultsHeld (decode w)
+  filed-word = faults-held-at w (decode w) (sound-is w e .0)
+
+  pub held-room : getD w 5 0 ≤ mostCards
+  held-room = omega (arith, held-word, cards-fit (decode w) (sound-good w e .0), read-store h .0, h .sized .most)
+
+  -- a bucket
+
+  module _ {b : ℕ} (k : b < m + p) where
+    within : b < length (decode w .buckets)
+    within = omega (arith, sound-is w e .0 .fair .number, read-store h .2, read-store h .3)
+
+    pub bucket-word : segmentsAt + b < length w
+    bucket-word = omega (arith, size-room .1, h .sized .long)
+
+    pub bucket-chain : Ends c (nextCard w) (getD w (segmentsAt + b) 0)
+    bucket-chain = rw (read-store h .0) at (bucket-ends (sound-is w e .0) b within)
+
+    pub bucket-length : length (follow c (nextCard w) (getD w (segmentsAt + b) 0)) ≡ length (bucket (decode w) b)
+    bucket-length =
+        ap length (rw (read-store h .0) at (bucket-cells (sound-is w e .0) b within)) ∙ length-map (bucket (decode w) b) (λ (x : Card). x .at)
+
+    pub bucket-room : length (bucket (decode w) b) ≤ mostCards
+    bucket-room = omega (arith, bucket-length, follow-length c (nextCard w) (getD w (segmentsAt + b) 0), h .sized .most)
+
+  -- a card that is held
+
+  pub held-history : {y : List ℕ} {i : ℕ} → HeldCell w y c f i → length (historyIn (decode w) y) ≤ mostFaults
+  held-history {y} {i} k = omega (arith, ap length (k .history), faults-long f w (cardWord w i 6), follow-length f (nextFault w) (cardWord w i 6), h .sized .mostFaults)
+
+  -- the scans
+
+  module _ (b : ℕ) where
+    pub grow-none : splits (getD w 5 0 + 1) (m + p) ≡ false → 0 ≡ growScan (decode w) b
+    unfolding growScan
+    grow-none t = rw (← held-word, read-store h .2, read-store h .3, t)
+
+    pub grow-some : splits (getD w 5 0 + 1) (m + p) ≡ true → length (bucket (decode w) p) + cond (eqb b p) 1 0 ≡ growScan (decode w) b
+    unfolding growScan
+    grow-some t = rw (← held-word, read-store h .2, read-store h .3, t)
+
+    pub shrink-none : contracts (getD w 5 0 - 1) (m + p) ≡ false → 0 ≡ shrinkScan (decode w) b
+    unfolding shrinkScan
+    shrink-none t = rw (← held-word, read-store h .2, read-store h .3, t)
+
+    pub shrink-some : contracts (getD w 5 0 - 1) (m + p) ≡ true → length (bucket (decode w) (m + p - 1)) - cond (eqb b (m + p - 1)) 1 0 ≡ shrinkScan (decode w) b
+    unfolding shrinkScan
+    shrink-some t = rw (← held-word, read-store h .2, read-store h .3, t)
+
+-- the two kinds of plans
+
+module _ {s : Store} (bytes : List ℕ) (n : ℕ) {a : Answer} where
+  plan-refused : (k place faults : ℕ) → a ≡ gives (suc k) place 0 faults → Plans a s bytes n (refusal (suc k) place faults)
+  plan-refused k place faults g =
+      rw g (record { answer = record { number-is = refl; comparisons-are = refl; scanned-is = refl; faults-are = refl }; places = λ z. absurd (omega arith) })
+
+  plan-ahead : validSerial bytes n ≡ true → {o : Spot} → Finds s (take n bytes) o → (scan faults : ℕ) → a ≡ gives 0 (o .place) scan faults → Plans a s bytes n (ahead o scan faults)
+  plan-ahead v f scan faults g =
+      rw g (record {
+        answer = record { number-is = refl; comparisons-are = refl; scanned-is = refl; faults-are = refl };
+        places = λ z. record { valid = v; bucket-is = f .bucket-is; cell-is = f .cell-is; prev-is = f .prev-is };
+      })
+
+-- the ways out of each plan
+
+module _ (w : List ℕ) (e : sound w ≡ true) (bytes : List ℕ) (n : ℕ) where
+  -- 4
+  module _ (v : validSerial bytes n ≡ false) where
+    pub enter-invalid : Plans (enterStep (decode w) bytes n .answer) (decode w) bytes n (refusal 4 0 0)
+    unfolding enterStep
+    enter-invalid = plan-refused bytes n 3 0 0 (rw v)
+
+    pub file-invalid : (day code : ℕ) → Plans (fileStep (decode w) bytes n day code .answer) (decode w) bytes n (refusal 4 0 0)
+    unfolding fileStep
+    file-invalid day code = plan-refused bytes n 3 0 0 (rw v)
+
+    pub pairs-invalid : (room : ℕ) → PlansFor (showStep (decode w) bytes n) room (decode w) bytes n (refusal 4 0 0)
+    unfolding showStep
+    pairs-invalid room = record { with-room = λ given l. plan-refused bytes n 3 0 0 (rw v) }
+
+    pub withdraw-invalid : (room : ℕ) → PlansFor (withdrawStep (decode w) bytes n) room (decode w) bytes n (refusal 4 0 0)
+    unfolding withdrawStep
+    withdraw-invalid room = record { with-room = λ given l. plan-refused bytes n 3 0 0 (rw v) }
+
+  module _ (v : validSerial bytes n ≡ true) where
+    -- 5
+    pub file-bad : (day code : ℕ) → validFault day code ≡ false → Plans (fileStep (decode w) bytes n day code .answer) (decode w) bytes n (refusal 5 0 0)
+    unfolding fileStep
+    file-bad day code u = plan-refused bytes n 4 0 0 (rw (v, u))
+
+    module _ {o : Spot} (f : Finds (decode w) (take n bytes) o) where
+      -- no card has the serial
+      module _ (h : o .held ≡ false) where
+        none : length (found (take n bytes) (chainFor (decode w) (take n bytes))) ≡ 0
+        none = ap length (not-held (sound-is w e .0) (take n bytes) f h .absent .none)
+
+        pub enter-full : held (decode w) ≡ decode w .limit → Plans (enterStep (decode w) bytes n .answer) (decode w) bytes n (refusal 8 (o .place) 0)
+        unfolding enterStep
+        enter-full k = plan-refused bytes n 7 (o .place) 0 (rw (v, none, f .place-is, eq-eqb (held (decode w)) (decode w .limit) k))
+
+        pub enter-ahead : (held (decode w) ≡ decode w .limit → ⊥)
+            → Plans (enterStep (decode w) bytes n .answer) (decode w) bytes n (ahead o (growScan (decode w) (o .bucket)) 0)
+        unfolding enterStep
+        enter-ahead k =
+            plan-ahead bytes n v f (growScan (decode w) (o .bucket)) 0
+            (rw (v, none, f .place-is, f .bucket-is, grow-scan (decode w) (sound-is w e .0 .fair) (take n bytes), ne-eqb (held (decode w)) (decode w .limit) k))
+
+        pub file-missing : (day code : ℕ) → validFault day code ≡ true → Plans (fileStep (decode w) bytes n day code .answer) (decode w) bytes n (refusal 7 (o .place) 0)
+        unfolding fileStep
+        file-missing day code u = plan-refused bytes n 6 (o .place) 0 (rw (v, u, none, f .place-is))
+
+        pub pairs-missing : (room : ℕ) → PlansFor (showStep (decode w) bytes n) room (decode w) bytes n (refusal 7 (o .place) 0)
+        unfolding showStep
+        pairs-missing room = record { with-room = λ given l. plan-refused bytes n 6 (o .place) 0 (rw (v, none, f .place-is)) }
+
+      -- one has it
+      module _ (h : o .held ≡ true) where
+        one : length (found (take n bytes) (chainFor (decode w) (take n bytes))) ≡ 1
+        one = ap length (is-held (sound-is w e .0) (take n bytes) f h .present .only)
+
+        pub enter-held : Plans (enterStep (decode w) bytes n .answer) (decode w) bytes n (refusal 6 (o .place) 0)
+        unfolding enterStep
+        enter-held = plan-refused bytes n 5 (o .place) 0 (rw (v, one, f .place-is))
+
+        module _ (day code : ℕ) (u : validFault day code ≡ true) where
+          pub file-full : faultsHeld (decode w) ≡ decode w .faultLimit → Plans (fileStep (decode w) bytes n day code .answer) (decode w) bytes n (refusal 9 (o .place) 0)
+          unfolding fileStep
+          file-full k = plan-refused bytes n 8 (o .place) 0 (rw (v, u, one, f .place-is, eq-eqb (faultsHeld (decode w)) (decode w .faultLimit) k))
+
+          pub file-ahead : (faultsHeld (decode w) ≡ decode w .faultLimit → ⊥) → (count : ℕ) → count ≡ length (historyIn (decode w) (take n bytes))
+              → Plans (fileStep (decode w) bytes n day code .answer) (decode w) bytes n (ahead o 0 (count + 1))
+          unfolding fileStep
+          file-ahead k count l =
+              plan-ahead bytes n v f 0 (count + 1) (rw (v, u, one, f .place-is, l, ne-eqb (faultsHeld (decode w)) (decode w .faultLimit) k))
+
+        module _ (room count : ℕ) (l : count ≡ length (historyIn (decode w) (take n bytes))) where
+          pub pairs-small : room < 2 * count → PlansFor (showStep (decode w) bytes n) room (decode w) bytes n (refusal 10 (o .place) count)
+          unfolding showStep
+          pairs-small b =
+              record { with-room = λ given k. plan-refused bytes n 9 (o .place) count (rw (v, one, f .place-is, l, lt-ltb (length given) (2 * length (historyIn (decode w) (take n bytes))) (omega arith))) }
+
+          pub pairs-ahead : 2 * count ≤ room → PlansFor (showStep (decode w) bytes n) room (decode w) bytes n (ahead o 0 count)
+          unfolding showStep
+          pairs-ahead b =
+              record { with-room = λ given k. plan-ahead bytes n v f 0 count (rw (v, one, f .place-is, l, le-ltb (length given) (2 * length (historyIn (decode w) (take n bytes))) (omega arith))) }
+
+-- Withdraw by the plan of Show
+module _ (s : Store) (bytes : List ℕ) (n : ℕ) (room : List ℕ) where
+  same-refused : (showStep s bytes n room .answer .number ≡ 0 → ⊥) → withdrawStep s bytes n room .answer ≡ showStep s bytes n room .answer
+  unfolding showStep withdrawStep
+  same-refused z =
+      let y = take n bytes in
+      by-cases (validSerial bytes n)
+      (λ v. by-cases (eqb (length (found y (chainFor s y))) 0)
+      (λ k. rw (v, k))
+      (λ k. by-cases (ltb (length room) (2 * length (historyIn s y))) (λ b. rw (v, k, b)) (λ b. absurd (z (rw (v, k, b))))))
+      (λ v. rw v)
+
+  same-done : Good s → showStep s bytes n room .answer .number ≡ 0
+      → (withdrawStep s bytes n room .answer ≡ gives 0 (showStep s bytes n room .answer .comparisons) (contractScan (removed s (take n bytes))) (showStep s bytes n room .answer .faults))
+      × (length (found (take n bytes) (chainFor s (take n bytes))) ≡ 1)
+  unfolding showStep withdrawStep
+  same-done g z =
+      let (v, l, b) = show-numbers s bytes n room g .done .0 z in
+      (rw (v, l, le-ltb (length room) (2 * length (historyIn s (take n bytes))) b), l)
+
+module _ (w : List ℕ) (e : sound w ≡ true) (bytes : List ℕ) (n room : ℕ) (r : Plan) (p : PlansFor (showStep (decode w) bytes n) room (decode w) bytes n r) where
+  pub withdraw-refused : (r .number ≡ 0 → ⊥) → PlansFor (withdrawStep (decode w) bytes n) room (decode w) bytes n r
+  withdraw-refused z =
+      record { with-room = λ given l. let q = p .with-room given l in rw (same-refused (decode w) bytes n given (λ k. z (q .answer .number-is ∙ k))) q }
+
+  pub withdraw-ahead : r .number ≡ 0 → (scan : ℕ) → scan ≡ shrinkScan (decode w) (r .bucket)
+      → PlansFor (withdrawStep (decode w) bytes n) room (decode w) bytes n
+      (record { number = 0; comparisons = r .comparisons; scanned = scan; faults = r .faults; bucket = r .bucket; cell = r .cell; prev = r .prev })
+  withdraw-ahead z scan k = record { with-room = λ given l. go given (p .with-room given l) }
+    where
+      go : (given : List ℕ) → Plans (showStep (decode w) bytes n given .answer) (decode w) bytes n r → Plans (withdrawStep (decode w) bytes n given .answer) (decode w) bytes n
+          (record { number = 0; comparisons = r .comparisons; scanned = scan; faults = r .faults; bucket = r .bucket; cell = r .cell; prev = r .prev })
+      go given q =
+          let d = same-done (decode w) bytes n given (sound-good w e .0) (sym (q .answer .number-is) ∙ z) in
+          let o = q .places z in
+          rw (d .0) (record {
+            answer = record {
+              number-is = refl;
+              comparisons-are = q .answer .comparisons-are;
+              scanned-is = k ∙ ap (shrinkScan (decode w)) (o .bucket-is) ∙ sym (shrink-scan (decode w) (sound-is w e .0 .fair) (take n bytes) (d .1));
+              faults-are = q .answer .faults-are;
+            };
+            places = λ _. record { valid = o .valid; bucket-is = o .bucket-is; cell-is = o .cell-is; prev-is = o .prev-is };
+          })

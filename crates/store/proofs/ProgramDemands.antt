@@ -1,0 +1,75 @@
+-- Demands 2 and 3 of the program itself, over every sequence of its calls after an accepted Open. A call that meets its contract gives and
+-- leaves what the model says, by equations; so a sequence of calls that meet theirs is the model's sequence (`same-words`, `same-events`,
+-- `same-tells`), and the model's theorems hold of it.
+use mathlib.Core.Path.{_≡_, refl, sym, ap, _∙_, subst}
+use mathlib.Core.Bool.{cond}
+use mathlib.Core.List.{List, [], _∷_, _++_, map}
+use Prim.Native.Nat.{ℕ}
+use lib.Dec.{eqb}
+use Rattle.model.specs.Layout.{decode}
+use Rattle.model.specs.Calls.{openCall}
+use Rattle.model.specs.Runs.{Act, Call, Call.opening, Call.acting, wordsAfter, run, Event, Event.opened, eventsOf, events, Tell, tellOf, tells, bookAfter, bookTells}
+use Rattle.model.proofs.Demand2.{Agrees, emptyBook}
+use Rattle.model.proofs.Demands.{Demand3, Demand2, demand3, demand2}
+use Rattle.store.specs.Leaves.{Opens, Leaves}
+use Rattle.store.specs.Sequences.{Given, Made, Meets, AllMeet, endWords, seen, seenOf, toldOf}
+
+-- the calls alone
+abbrev callsOf : List Made → List Call
+callsOf = map (λ m. m .call)
+
+-- one call
+
+left-words : (w : List ℕ) (c : Call) (g : Given) → Meets w c g → g .words ≡ wordsAfter w c
+left-words w (opening c f) g e = e .0 .words-are
+left-words w (acting scratch act) g e = e .words-are
+
+seen-is : (w : List ℕ) (c : Call) (g : Given) → Meets w c g → seen c g ≡ eventsOf w c
+seen-is w (opening c f) g e = ap (λ (n : ℕ). cond (eqb n 0) (opened ∷ []) []) (e .0 .number-is)
+seen-is w (acting scratch act) g e = rw (e .answer .number-is, e .answer .faults-are)
+
+told-is : (w : List ℕ) (c : Call) (g : Given) → Meets w c g → record { number = g .number; faults = g .faults; room = g .room } ≡ tellOf w c
+told-is w (opening c f) g e = rw (e .0 .number-is, e .1, e .2)
+told-is w (acting scratch act) g e = rw (e .answer .number-is, e .answer .faults-are, e .room-is)
+
+-- a sequence
+
+same-words : (w : List ℕ) (ms : List Made) → AllMeet w ms → endWords w ms ≡ run w (callsOf ms)
+same-words w [] a = refl
+same-words w (m ∷ ms) a =
+    same-words (m .gives .words) ms (a .1) ∙ ap (λ (v : List ℕ). run v (callsOf ms)) (left-words w (m .call) (m .gives) (a .0))
+
+same-events : (w : List ℕ) (ms : List Made) → AllMeet w ms → seenOf ms ≡ events w (callsOf ms)
+same-events w [] a = refl
+same-events w (m ∷ ms) a =
+    let e = left-words w (m .call) (m .gives) (a .0) in
+    rw (seen-is w (m .call) (m .gives) (a .0), ← e, same-events (m .gives .words) ms (a .1))
+
+same-tells : (w : List ℕ) (ms : List Made) → AllMeet w ms → toldOf ms ≡ tells w (callsOf ms)
+same-tells w [] a = refl
+same-tells w (m ∷ ms) a =
+    let e = left-words w (m .call) (m .gives) (a .0) in
+    rw (told-is w (m .call) (m .gives) (a .0), ← e, same-tells (m .gives .words) ms (a .1))
+
+-- the words of an accepted Open
+opened-words : (w₀ w : List ℕ) (c f : ℕ) → Opens (openCall w₀ c f) 0 w → (openCall w₀ c f .number ≡ 0) × (w ≡ openCall w₀ c f .words)
+opened-words w₀ w c f o = (sym (o .number-is), o .words-are)
+
+pub program-demand3 : (w₀ w : List ℕ) (c f : ℕ) → Opens (openCall w₀ c f) 0 w → (ms : List Made) → AllMeet w ms → Demand3 (endWords w ms) (seenOf ms)
+program-demand3 w₀ w c f o ms a =
+    let e = opened-words w₀ w c f o in
+    rw (same-words w ms a, same-events w ms a, e .1) (demand3 w₀ c f (e .0) (callsOf ms))
+
+-- each answer is the plain list's, and the store and the list agree on every serial at the end
+pub record AsList (w : List ℕ) (c f : ℕ) (ms : List Made) : Type 0 where
+  pub answers : toldOf ms ≡ bookTells (emptyBook c f) (callsOf ms)
+  pub agrees : Agrees (bookAfter (emptyBook c f) (callsOf ms)) (decode (endWords w ms))
+
+pub program-demand2 : (w₀ w : List ℕ) (c f : ℕ) → Opens (openCall w₀ c f) 0 w → (ms : List Made) → AllMeet w ms → AsList w c f ms
+program-demand2 w₀ w c f o ms a =
+    let e = opened-words w₀ w c f o in
+    let d = demand2 w₀ c f (e .0) (callsOf ms) in
+    record {
+      answers = same-tells w ms a ∙ rw (e .1) (d .same-tells);
+      agrees = rw (same-words w ms a, e .1) (d .agrees);
+    }

@@ -1,0 +1,45 @@
+-- The split and the contraction as the runs of writes that their code makes (`split-words`, `join-words`), and the numbers that they go by.
+use mathlib.Core.Path.{_≡_}
+use mathlib.Core.Logic.{⊎-elim}
+use mathlib.Core.List.{List}
+use Prim.Native.Nat.{ℕ, _+_, _-_, _≤_, _<_}
+use native.Mathlib.Omega.{arith}
+use lib.ListN.{set}
+use Rattle.rules.specs.Table.{highMaxp, highP, lowMaxp, lowP}
+use Rattle.rules.proofs.Tests.{eq?}
+use Rattle.rules.proofs.Addresses.{shrunk-on, shrunk-over}
+use Rattle.model.specs.Layout.{segmentsAt}
+use Rattle.model.specs.Meaning.{bucketWord, bucketCells}
+use Rattle.model.specs.Words.{linkAt, openWords, closeWords, partWords, splitWords, joinWords}
+use Rattle.store.specs.Cells.{Read}
+use Rattle.store.specs.Table.{MayJoin, lastFrom, lastOf}
+use Rattle.store.proofs.EndsLaws.{last-to}
+
+pub split-words : {w w₁ w₂ w₃ : List ℕ} {c f m p m₁ p₁ : ℕ} → Read w c f m p
+    → w₁ ≡ partWords c m p w 0 0 (bucketWord w p)
+    → w₂ ≡ openWords w₁ (m + p)
+    → m₁ ≡ highMaxp m p → p₁ ≡ highP m p
+    → w₃ ≡ set (set w₂ 3 m₁) 4 p₁
+    → w₃ ≡ splitWords w
+unfolding splitWords
+split-words r e₁ e₂ a b e₃ = rw (e₃, e₂, e₁, a, b, r .sized .limit, r .maxp, r .state)
+
+-- the bucket that is joined is one of the table
+pub low-below : (m p : ℕ) → 2 ≤ m → lowP m p + 1 < m + p
+low-below m p h = ⊎-elim (λ (z : p ≡ 0). omega (arith, shrunk-over m p z)) (λ (z : p ≡ 0 → ⊥). omega (arith, shrunk-on m p z)) (eq? p 0)
+
+module _ {w : List ℕ} {c f m p b k : ℕ} (pre : MayJoin w c f m p) (low : b ≡ lowP m p) (end : k ≡ lastFrom c w (bucketWord w b)) where
+  pub join-end : k ≤ c
+  unfolding lastFrom
+  join-end = rw (end, low) (last-to (pre .chain))
+
+  pub join-words : {w₁ w₂ w₃ w₄ : List ℕ} {q m₁ : ℕ}
+      → q ≡ bucketWord w (m + p - 1)
+      → w₁ ≡ set w (linkAt b k) q
+      → w₂ ≡ set w₁ (segmentsAt + (m + p - 1)) 0
+      → w₃ ≡ closeWords w₂ (m + p - 1)
+      → m₁ ≡ lowMaxp m p
+      → w₄ ≡ set (set w₃ 3 m₁) 4 b
+      → w₄ ≡ joinWords w (lastOf w (lowP m p))
+  unfolding joinWords lastOf bucketCells lastFrom
+  join-words d e₁ e₂ e₃ a e₄ = let r = pre .read in rw (e₄, e₃, e₂, e₁, d, a, end, low, r .sized .limit, r .maxp, r .state)

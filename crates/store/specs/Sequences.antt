@@ -1,0 +1,53 @@
+-- Sequences of calls of the program: each call with what it was given, what it gave and what it left. A sequence meets the contracts where
+-- each call does. What is told of each serial is read off the calls and the numbers given, and off nothing inside the store.
+use mathlib.Core.Path.{_≡_}
+use mathlib.Core.Bool.{cond}
+use mathlib.Core.List.{List, [], _∷_, _++_, map}
+use Prim.Native.Nat.{ℕ}
+use lib.Dec.{eqb}
+use Rattle.model.specs.Calls.{openCall}
+use Rattle.model.specs.Runs.{Act, Call, Call.opening, Call.acting, outcome, Event, Event.opened, Event.answered, Tell}
+use Rattle.store.specs.Leaves.{Opens, Leaves}
+
+-- all that a call gives and leaves; Open gives a number and leaves words, and has no more to say
+pub record Given : Type 0 where
+  pub number : ℕ
+  pub comparisons : ℕ
+  pub scanned : ℕ
+  pub faults : ℕ
+  pub words : List ℕ
+  pub room : List ℕ
+  pub scratch : List ℕ
+
+-- a call, and what the program did
+pub record Made : Type 0 where
+  pub call : Call
+  pub gives : Given
+
+-- the contract of the entry point that was called on the words w
+abbrev pub Meets : List ℕ → Call → Given → Type 0
+Meets w (opening c f) g = Opens (openCall w c f) (g .number) (g .words) × (g .faults ≡ 0) × (g .room ≡ [])
+Meets w (acting scratch act) g = Leaves (outcome w scratch act) (g .number) (g .comparisons) (g .scanned) (g .faults) (g .words) (g .room) (g .scratch)
+
+-- each call was made on the words that the one before it left
+abbrev pub AllMeet : List ℕ → List Made → Type 0
+AllMeet w [] = Unit {0}
+AllMeet w (m ∷ ms) = Meets w (m .call) (m .gives) × AllMeet (m .gives .words) ms
+
+-- the words at the end
+abbrev pub endWords : List ℕ → List Made → List ℕ
+endWords w [] = w
+endWords w (m ∷ ms) = endWords (m .gives .words) ms
+
+-- what is known outside: the store opened anew, and each act with the number and the faults that the program gave
+abbrev pub seen : Call → Given → List Event
+seen (opening c f) g = cond (eqb (g .number) 0) (opened ∷ []) []
+seen (acting scratch act) g = answered act (g .number) (g .faults) ∷ []
+
+abbrev pub seenOf : List Made → List Event
+seenOf [] = []
+seenOf (m ∷ ms) = seen (m .call) (m .gives) ++ seenOf ms
+
+-- what demand 2 compares
+abbrev pub toldOf : List Made → List Tell
+toldOf = map (λ m. record { number = m .gives .number; faults = m .gives .faults; room = m .gives .room })

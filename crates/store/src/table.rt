@@ -1,0 +1,182 @@
+// The table with one bucket more and one less: Larson's split of a chain in two, and the contraction that joins the two again.
+ghost use mathlib.Core.Path.{_≡_};
+ghost use Prim.Native.Nat.{_+_, _≤_, _<_};
+ghost use lib.ListN.{length, set};
+ghost use Rattle.rules.specs.Table.{top, highMaxp, highP, lowMaxp, lowP};
+ghost use Rattle.model.specs.Model.{grown, shrunk};
+ghost use Rattle.model.specs.Layout.{segmentsAt, encode, decode};
+ghost use Rattle.model.specs.Meaning.{nextCard, bucketWord};
+ghost use Rattle.model.specs.Words.{openWords, closeWords, movesAt, partWords, splitWords, joinWords};
+ghost use Rattle.store.specs.Cells.{Sized};
+ghost use Rattle.store.specs.Search.{Ends};
+ghost use Rattle.store.specs.Table.{MaySplit, MayJoin, lastFrom, lastOf, Fairly};
+use crate::cells;
+use crate::cells::Header;
+use crate::front;
+use crate::writes;
+
+// Buckets of a segment.
+const SEGMENT: u32 = 16;
+
+// Whether the card in cell i goes to the new bucket maxp + p.
+fn moves(w: &[u32], c: u32, f: u32, maxp: u32, p: u32, i: u32) -> bool
+    requires { ⌜ Sized (now w) c f × (1 ≤ maxp) × (maxp + p < top) × (1 ≤ i) × (i ≤ c) ⌝ }
+    ensures { λ r. ⌜ r ≡ movesAt (now (w .entry)) maxp p i ⌝ }
+{
+    let len = cells::card_word(w, c, f, i, 1) as usize;
+    let bytes = cells::bytes_at(w, c, f, i);
+    let code = rules::serial_code(bytes, len);
+    code % (2 * maxp) == maxp + p
+}
+
+// One pass over bucket p's chain: each cell goes behind the last one that stays, k, or the last one that goes, g, so both
+// chains keep their order. A cell's next word is read before anything behind it is written.
+fn part(w: &mut [u32], c: u32, f: u32, maxp: u32, p: u32)
+    requires { ⌜ MaySplit (now w) c f maxp p ⌝ }
+    ensures { λ _. ⌜ now (w .exit) ≡ partWords c maxp p (now (w .entry)) 0 0 (bucketWord (now (w .entry)) p) ⌝ }
+{
+    let n = maxp + p;
+    let mut x = cells::word(w, cells::SEGMENTS + p as usize);
+    let mut k: u32 = 0;
+    let mut g: u32 = 0;
+    while x != 0 {
+        let next = cells::card_word(w, c, f, x, 0);
+        if moves(w, c, f, maxp, p, x) {
+            writes::link(w, c, n, g, x);
+            g = x;
+        } else {
+            writes::link(w, c, p, k, x);
+            k = x;
+        }
+        x = next;
+    }
+    writes::link(w, c, p, k, 0);
+    writes::link(w, c, n, g, 0);
+}
+
+// Bucket n appears, and goes: its segment is taken, and freed, with its first bucket.
+fn open_bucket(w: &mut [u32], n: u32)
+    requires { ⌜ (segmentsAt + top ≤ length (now w)) × (n < top) ⌝ }
+    ensures { λ _. ⌜ now (w .exit) ≡ openWords (now (w .entry)) n ⌝ }
+{
+    if n % SEGMENT == 0 {
+        w[cells::DIRECTORY + (n / SEGMENT) as usize] = 32 + n;
+    }
+}
+
+fn close_bucket(w: &mut [u32], n: u32)
+    requires { ⌜ (segmentsAt + top ≤ length (now w)) × (n < top) ⌝ }
+    ensures { λ _. ⌜ now (w .exit) ≡ closeWords (now (w .entry)) n ⌝ }
+{
+    if n % SEGMENT == 0 {
+        w[cells::DIRECTORY + (n / SEGMENT) as usize] = 0;
+    }
+}
+
+// The state with one bucket more: p grows by 1; if p = maxp, maxp doubles and p is 0.
+fn high_maxp(maxp: u32, p: u32) -> u32
+    requires { ⌜ maxp + p < top ⌝ }
+    ensures { λ r. ⌜ r ≡ highMaxp maxp p ⌝ }
+{
+    if p + 1 == maxp { 2 * maxp } else { maxp }
+}
+
+fn high_p(maxp: u32, p: u32) -> u32
+    requires { ⌜ maxp + p < top ⌝ }
+    ensures { λ r. ⌜ r ≡ highP maxp p ⌝ }
+{
+    if p + 1 == maxp { 0 } else { p + 1 }
+}
+
+// The state with one bucket less: p falls by 1; if it was 0, maxp halves and p is the new maxp - 1.
+fn low_maxp(maxp: u32, p: u32) -> u32
+    ensures { λ r. ⌜ r ≡ lowMaxp maxp p ⌝ }
+{
+    if p == 0 { maxp / 2 } else { maxp }
+}
+
+fn low_p(maxp: u32, p: u32) -> u32
+    requires { ⌜ 2 ≤ maxp ⌝ }
+    ensures { λ r. ⌜ r ≡ lowP maxp p ⌝ }
+{
+    if p == 0 { maxp / 2 - 1 } else { p - 1 }
+}
+
+// maxp and p, words 3 and 4 of the header.
+fn set_state(w: &mut [u32], maxp: u32, p: u32)
+    requires { ⌜ segmentsAt + top ≤ length (now w) ⌝ }
+    ensures { λ _. ⌜ now (w .exit) ≡ set (set (now (w .entry)) 3 maxp) 4 p ⌝ }
+{
+    w[3] = maxp;
+    w[4] = p;
+}
+
+// One bucket more: the chain of bucket p is parted, the new bucket's segment is taken if it is the first there, p grows.
+pub fn split(w: &mut [u32], h: Header)
+    requires { ⌜ MaySplit (now w) (h .cards) (h .faults) (h .maxp) (h .p) ⌝ }
+    ensures { λ _. ⌜ now (w .exit) ≡ splitWords (now (w .entry)) ⌝ }
+{
+    let maxp = h.maxp;
+    let p = h.p;
+    part(w, h.cards, h.faults, maxp, p);
+    open_bucket(w, maxp + p);
+    set_state(w, high_maxp(maxp, p), high_p(maxp, p));
+}
+
+// The last cell of the chain from cell `first` on, 0 for none.
+fn last_from(w: &[u32], c: u32, f: u32, first: u32) -> u32
+    requires { ⌜ Sized (now w) c f × Ends c (nextCard (now w)) first ⌝ }
+    ensures { λ r. ⌜ r ≡ lastFrom c (now (w .entry)) first ⌝ }
+{
+    let mut i = first;
+    let mut last: u32 = 0;
+    while i != 0 {
+        last = i;
+        i = cells::card_word(w, c, f, i, 0);
+    }
+    last
+}
+
+// One bucket less: the last bucket's chain goes behind the chain that it was split from, its own word becomes 0, and its
+// segment is freed if it was the first there.
+pub fn join(w: &mut [u32], h: Header)
+    requires { ⌜ MayJoin (now w) (h .cards) (h .faults) (h .maxp) (h .p) ⌝ }
+    ensures { λ _. ⌜ now (w .exit) ≡ joinWords (now (w .entry)) (lastOf (now (w .entry)) (lowP (h .maxp) (h .p))) ⌝ }
+{
+    let c = h.cards;
+    let f = h.faults;
+    let maxp = h.maxp;
+    let p = h.p;
+    let b = low_p(maxp, p);
+    let going = maxp + p - 1;
+    let k = last_from(w, c, f, cells::word(w, cells::SEGMENTS + b as usize));
+    let first = cells::word(w, cells::SEGMENTS + going as usize);
+    writes::link(w, c, b, k, first);
+    writes::put_bucket(w, going, 0);
+    close_bucket(w, going);
+    set_state(w, low_maxp(maxp, p), b);
+}
+
+// After an accepted entry: one bucket more if there are more than 4 cards a bucket.
+pub fn grow(w: &mut [u32])
+    requires { ⌜ Fairly (now w) ⌝ }
+    ensures { λ _. ⌜ now (w .exit) ≡ encode (grown (decode (now (w .entry)))) ⌝ }
+{
+    let h = front::header(w);
+    let n = cells::word(w, 5);
+    if rules::must_split(n, h.maxp + h.p) {
+        split(w, h);
+    }
+}
+
+// After an accepted withdrawal: one bucket less if there are fewer than 2 cards a bucket, and more than 16 buckets.
+pub fn shrink(w: &mut [u32])
+    requires { ⌜ Fairly (now w) ⌝ }
+    ensures { λ _. ⌜ now (w .exit) ≡ encode (shrunk (decode (now (w .entry)))) ⌝ }
+{
+    let h = front::header(w);
+    let n = cells::word(w, 5);
+    if rules::must_contract(n, h.maxp + h.p) {
+        join(w, h);
+    }
+}
