@@ -14,7 +14,7 @@ use Rattle.model.proofs.Sums.{total-flat}
 use Rattle.model.proofs.Meaning.{filed-by-cell}
 use Rattle.store.specs.Cells.{cellWord, limitOf}
 use Rattle.store.specs.Checker.{firstOf, chainCount}
-use Rattle.store.proofs.Walking.{follow-none}
+use Rattle.model.proofs.Chains.{follow-none}
 use Rattle.store.proofs.PartMeans.{chainIn, chainsIn}
 
 pub no-history : (w : List ℕ) (i : ℕ) → cardWord w i 6 ≡ 0 → historyCells w i ≡ []
