@@ -111,3 +111,18 @@ pub fn work(words: &mut [u32], scratch: &mut [u8], text: &[u8], out: &mut [u8], 
     }
     with_room(words, text, out, tally)
 }
+
+// The job, with the tally lent by the caller: the one thin function over `work`.
+pub fn run(
+    words: &mut [u32],
+    scratch: &mut [u8],
+    text: &[u8],
+    out: &mut [u8],
+    tally: &mut Tally,
+) -> Done
+    ensures { λ r. ⌜ Did (now (words .entry)) (now (scratch .entry)) (now (text .entry)) (now (out .entry)) (now (tally .entry)) r (now (tally .exit)) (now (words .exit)) (now (scratch .exit)) (now (out .exit)) ⌝ }
+{
+    let r = work(words, scratch, text, out, *tally);
+    *tally = r.tally;
+    r.done
+}
