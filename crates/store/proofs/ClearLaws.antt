@@ -10,6 +10,7 @@ use lib.Seq.{getD-set-other}
 use Rattle.model.specs.Layout.{cellAt, follow, faultWord}
 use Rattle.model.specs.Meaning.{nextFault}
 use Rattle.model.specs.Words.{faultAt, clearWords, giveWords}
+use Rattle.model.proofs.Give.{clear-none, clear-step}
 use Rattle.store.specs.Cells.{Sized}
 use Rattle.store.specs.Search.{Ends}
 use Rattle.store.proofs.AlongLaws.{follow-length}
@@ -30,16 +31,6 @@ pub record Clearing (c f : ℕ) (w₀ : List ℕ) (first : ℕ) (w : List ℕ) (
 
 pub clear-start : {w : List ℕ} {c f first : ℕ} → Sized w c f → Ends f (nextFault w) first → Clearing c f w first w first
 clear-start {w} {f = f} {first = first} s e = record { sized = s; ends = e; fuel = f; enough = follow-length f (nextFault w) first; same = refl }
-
-clear-none : (fuel c : ℕ) (w : List ℕ) → clearWords fuel c w 0 ≡ w
-unfolding clearWords
-clear-none zero c w = refl
-clear-none (suc fuel) c w = refl
-
-clear-more : (fuel c : ℕ) (w : List ℕ) (i : ℕ) → (i ≡ 0 → ⊥)
-    → clearWords (suc fuel) c w i ≡ clearWords fuel c (set (set w (faultAt c i 1) 0) (faultAt c i 2) 0) (getD w (faultAt c i 0) 0)
-unfolding clearWords
-clear-more fuel c w i ne = rw (ne-eqb i 0 ne)
 
 module _ {c f : ℕ} {w₀ : List ℕ} {first : ℕ} {w : List ℕ} {i : ℕ} (a : Clearing c f w₀ first w i) where
   pub clear-end : i ≡ 0 → w ≡ clearWords f c w₀ first
@@ -75,7 +66,7 @@ module _ {c f : ℕ} {w₀ : List ℕ} {first : ℕ} {w : List ℕ} {i : ℕ} (a
               ends = behind .1;
               fuel = fuel;
               enough = omega (arith, clear-less);
-              same = rw (e₂, e₁, n, fault-read (a .sized) i 0) (sym (clear-more fuel c w i ne) ∙ s);
+              same = rw (e₂, e₁, n, fault-read (a .sized) i 0) (sym (clear-step fuel c w i (omega arith)) ∙ s);
             }
 
 -- a history given back: none, or its cells cleared and put before the free ones

@@ -5,7 +5,7 @@ use mathlib.Core.Path.{_≡_, refl, sym, ap, subst, _∙_}
 use mathlib.Core.Logic.{⊎-elim}
 use mathlib.Core.Bool.{true}
 use mathlib.Core.List.{List, [], _∷_}
-use Prim.Native.Nat.{ℕ, zero, suc, _≤_, _<_}
+use Prim.Native.Nat.{ℕ, _≤_, _<_}
 use native.Mathlib.Omega.{arith}
 use lib.ListN.{length}
 use Rattle.rules.proofs.Tests.{both, eq?, lt?}
@@ -17,6 +17,7 @@ use Rattle.model.proofs.Sums.{count, bit-same, bit-other}
 use Rattle.model.proofs.Walks.{times-count, every-in, in-every, all-every, led-follow}
 use Rattle.store.specs.Search.{Ends}
 use Rattle.store.proofs.AlongLaws.{follow-length}
+use Rattle.store.proofs.Walking.{lastOr, last-or}
 
 -- cells among 1 to the limit
 inside-in : (limit : ℕ) (l : List ℕ) → all (between 1 limit) l ≡ true → (i : ℕ) → 0 < count i l → (1 ≤ i) × (i ≤ limit)
@@ -31,11 +32,6 @@ led-frame next new h (x ∷ l) f r =
 -- a walk to its end is what `follow` reads, with fuel enough
 walked : (limit : ℕ) (next : ℕ → ℕ) (fuel h : ℕ) (l : List ℕ) → Leads next h l → all (between 1 limit) l ≡ true → length l ≤ fuel → follow fuel next h ≡ l
 walked limit next fuel h l r a b = led-follow next fuel h l r (in-every (λ i. 1 ≤ i) l (λ i p. inside-in limit l a i (omega (arith, times-count i l)) .0)) b
-
-pub follow-none : (limit : ℕ) (next : ℕ → ℕ) (h : ℕ) → h ≡ 0 → follow limit next h ≡ []
-unfolding follow
-follow-none zero next h z = refl
-follow-none (suc limit) next h z = rw z
 
 module _ {limit : ℕ} {next : ℕ → ℕ} {h : ℕ} (e : Ends limit next h) where
   pub ends-in : (i : ℕ) → 0 < count i (follow limit next h) → (1 ≤ i) × (i ≤ limit)
@@ -105,22 +101,7 @@ ends-apart {limit} {next} {h} e some =
     ⊎-elim (λ (p : 0 < count h l). absurd (omega (arith, not-longer limit next l (next h) refl (ends-on e some .1) h p, ends-less e some)))
     (λ (p : count h l ≤ 0). omega arith) (lt? 0 (count h l))
 
--- the last of some cells, or d
-unfoldable pub lastOr : ℕ → List ℕ → ℕ
-lastOr d [] = d
-lastOr d (x ∷ l) = lastOr x l
-
-pub last-or : (l : List ℕ) → lastOr 0 l ≡ last l
-unfolding lastOr last
-last-or [] = refl
-last-or (x ∷ l) = go x l
-  where
-    go : (x : ℕ) (l : List ℕ) → lastOr x l ≡ last (x ∷ l)
-    go x [] = refl
-    go x (y ∷ l) = go y l
-
 pub last-to : {limit : ℕ} {next : ℕ → ℕ} {h : ℕ} → Ends limit next h → last (follow limit next h) ≤ limit
-unfolding lastOr
 last-to {limit} {next} {h} e = omega (arith, last-or (follow limit next h), go 0 (follow limit next h) (omega arith) (e .inside))
   where
     go : (d : ℕ) (l : List ℕ) → d ≤ limit → all (between 1 limit) l ≡ true → lastOr d l ≤ limit

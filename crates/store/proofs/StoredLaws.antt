@@ -21,6 +21,7 @@ use Rattle.model.proofs.Fair.{inCell, limits-of, card-cells}
 use Rattle.model.proofs.Rep.{Rep, rep-front, size-top}
 use Rattle.model.proofs.Decode.{head-cards, head-faults, segment-at, limit-at, fault-limit-at, cards-at, read-chain}
 use Rattle.model.proofs.Sound.{sound-is}
+use Rattle.model.proofs.Split.{ats-cards}
 use Rattle.store.specs.Cells.{Sized, Read}
 use Rattle.store.specs.Search.{Ends, faultsFrom}
 
@@ -44,11 +45,6 @@ held-ends w base width n chains z e r j =
       leads = rw f (stand-leads (cellIn w base width) width z (getD chains j []) (r j));
       inside = rw f (ats-inside n (getD chains j []) (λ i h. e .inside i (omega (arith, total-one (λ c. bit (eqb i (c .at))) chains j))));
     }
-
-ats-cards : (cs : List Card) → atsOf (map cardCell cs) ≡ cellsOf cs
-unfolding cardCell
-ats-cards [] = refl
-ats-cards (c ∷ cs) = ap (λ (l : List ℕ). c .at ∷ l) (ats-cards cs)
 
 -- a card of a chain, with the cards behind it, as its cell stands in the words
 pub record Stored (w : List ℕ) (s : Store) (c : Card) (after : List Card) : Type 0 where
