@@ -7,7 +7,6 @@ pub mod Places
 pub mod Chains
 pub mod Part
 pub mod Writes
-pub mod Lend
 -- The store as facts
 pub mod Fair
 -- The words of a store
@@ -46,4 +45,3 @@ pub mod Remove
 pub mod Parting
 pub mod Split
 pub mod Join
-pub mod Changes

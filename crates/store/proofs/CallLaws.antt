@@ -1,4 +1,4 @@
--- Calls from their parts. On sound words a call is its plan and, where that goes ahead, the change (`file-refused`, `file-done` ..); for any
+-- Calls from their parts. On sound words a call is its plan and, where that goes ahead, the change (`enter-refused`, `enter-done` ..); for any
 -- words the entry point refuses by 11 and 3 first (`call-short`, `call-unsound`) and then does what the call does (`call-does`).
 use mathlib.Core.Path.{_≡_, refl, sym, ap, _∙_}
 use mathlib.Core.Bool.{true, false}
@@ -8,9 +8,9 @@ use lib.ListN.{length}
 use borrow.Author.Tests.{lt-ltb, le-ltb}
 use Rattle.model.specs.Model.{Store}
 use Rattle.model.specs.Layout.{decode, encode, sound}
-use Rattle.model.specs.Calls.{Step, scratchNeed, cleaned, call, fileStep}
+use Rattle.model.specs.Calls.{Step, scratchNeed, cleaned, call, enterStep, fileStep, withdrawStep}
 use Rattle.model.proofs.Sound.{sound-good}
-use Rattle.model.proofs.Cases.{file-cases}
+use Rattle.model.proofs.Cases.{enter-cases, file-cases, withdraw-cases}
 use Rattle.store.specs.Leaves.{Gives, Leaves, Does}
 use Rattle.store.specs.Plans.{Plans}
 use Rattle.store.specs.declared.plans.Plan.{Plan}
@@ -38,10 +38,31 @@ module _ (step : Store → Step) (w scratch room : List ℕ) {number comparisons
     unfolding call
     call-does e d = rw (le-ltb (length scratch) scratchNeed h, e) (record { answer = d .answer; words-are = d .words-are; room-is = d .room-is; scratch-is = l })
 
--- calls on sound words
+-- calls on sound words: a plan that refuses leaves the words and the room, one that goes ahead leaves those of its step
 
--- a plan that refuses leaves the words, one that goes ahead leaves those of its step
+pub plan-done : {s : Store} {bytes : List ℕ} {n : ℕ} {t : Step} {r : Plan} → Plans (t .answer) s bytes n r → {words room : List ℕ} → words ≡ encode (t .store) → room ≡ t .room
+    → Does t (r .number) (r .comparisons) (r .scanned) (r .faults) words room
+plan-done p a b = record { answer = p .answer; words-are = a; room-is = b }
+
 module _ (w : List ℕ) (e : sound w ≡ true) (bytes : List ℕ) (n : ℕ) where
+  words-stay : {s : Store} → s ≡ decode w → w ≡ encode s
+  words-stay l = sym (sound-good w e .1) ∙ ap encode (sym l)
+
+  module _ {r : Plan} (p : Plans (enterStep (decode w) bytes n .answer) (decode w) bytes n r) where
+    enter-room : enterStep (decode w) bytes n .room ≡ []
+    enter-room = enter-cases (decode w) (sound-good w e .0) bytes n (λ t. t .room ≡ []) (λ v. refl) (λ v l. refl) (λ v l f. refl) (λ v l f. refl)
+
+    enter-stays : (enterStep (decode w) bytes n .answer .number ≡ 0 → ⊥) → enterStep (decode w) bytes n .store ≡ decode w
+    enter-stays = enter-cases (decode w) (sound-good w e .0) bytes n (λ t. (t .answer .number ≡ 0 → ⊥) → t .store ≡ decode w)
+        (λ v z. refl) (λ v l z. refl) (λ v l f z. refl) (λ v l f z. absurd (z refl))
+
+    pub enter-refused : (r .number ≡ 0 → ⊥) → Does (enterStep (decode w) bytes n) (r .number) (r .comparisons) (r .scanned) (r .faults) w []
+    enter-refused z = plan-done p (words-stay (enter-stays (λ k. z (p .answer .number-is ∙ k)))) (sym enter-room)
+
+    pub enter-done : {words : List ℕ} → words ≡ encode (enterStep (decode w) bytes n .store)
+        → Does (enterStep (decode w) bytes n) (r .number) (r .comparisons) (r .scanned) (r .faults) words []
+    enter-done l = plan-done p l (sym enter-room)
+
   module _ (day code : ℕ) {r : Plan} (p : Plans (fileStep (decode w) bytes n day code .answer) (decode w) bytes n r) where
     file-room : fileStep (decode w) bytes n day code .room ≡ []
     file-room = file-cases (decode w) (sound-good w e .0) bytes n (λ t. t .room ≡ []) day code (λ v. refl) (λ v u. refl) (λ v u l. refl) (λ v u l f. refl) (λ v u l f. refl)
@@ -51,9 +72,16 @@ module _ (w : List ℕ) (e : sound w ≡ true) (bytes : List ℕ) (n : ℕ) wher
         (λ v z. refl) (λ v u z. refl) (λ v u l z. refl) (λ v u l f z. refl) (λ v u l f z. absurd (z refl))
 
     pub file-refused : (r .number ≡ 0 → ⊥) → Does (fileStep (decode w) bytes n day code) (r .number) (r .comparisons) (r .scanned) (r .faults) w []
-    file-refused z =
-        record { answer = p .answer; words-are = sym (sound-good w e .1) ∙ ap encode (sym (file-stays (λ k. z (p .answer .number-is ∙ k)))); room-is = sym file-room }
+    file-refused z = plan-done p (words-stay (file-stays (λ k. z (p .answer .number-is ∙ k)))) (sym file-room)
 
     pub file-done : {words : List ℕ} → words ≡ encode (fileStep (decode w) bytes n day code .store)
         → Does (fileStep (decode w) bytes n day code) (r .number) (r .comparisons) (r .scanned) (r .faults) words []
-    file-done l = record { answer = p .answer; words-are = l; room-is = sym file-room }
+    file-done l = plan-done p l (sym file-room)
+
+  module _ (room : List ℕ) {r : Plan} (p : Plans (withdrawStep (decode w) bytes n room .answer) (decode w) bytes n r) where
+    withdraw-stays : (withdrawStep (decode w) bytes n room .answer .number ≡ 0 → ⊥) → (withdrawStep (decode w) bytes n room .store ≡ decode w) × (withdrawStep (decode w) bytes n room .room ≡ room)
+    withdraw-stays = withdraw-cases (decode w) (sound-good w e .0) bytes n (λ t. (t .answer .number ≡ 0 → ⊥) → (t .store ≡ decode w) × (t .room ≡ room)) room
+        (λ v z. (refl, refl)) (λ v l z. (refl, refl)) (λ v l b z. (refl, refl)) (λ v l b z. absurd (z refl))
+
+    pub withdraw-refused : (r .number ≡ 0 → ⊥) → Does (withdrawStep (decode w) bytes n room) (r .number) (r .comparisons) (r .scanned) (r .faults) w room
+    withdraw-refused z = let k = withdraw-stays (λ k. z (p .answer .number-is ∙ k)) in plan-done p (words-stay (k .0)) (sym (k .1))

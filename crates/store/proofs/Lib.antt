@@ -23,7 +23,6 @@ pub mod PartsSound
 pub mod SoundParts
 pub mod Decides
 pub mod AlongLaws
-pub mod EndLaws
 pub mod ClearLaws
 -- Laws of the search, of the words of a store as they are read, and of what is found there
 pub mod SearchLaws
@@ -39,7 +38,8 @@ pub mod MakeLaws
 pub mod CallLaws
 -- What Open writes
 pub mod FreshLaws
--- Laws of chains that end, cell by cell, and of a chain parted in two
+-- Laws of chains that end, cell by cell, of a chain parted in two, and of the table grown and shrunk
 pub mod EndsLaws
 pub mod PartingLaws
 pub mod TableLaws
+pub mod GrowLaws

@@ -1,39 +1,47 @@
--- What a plan that goes ahead makes of sound words: the places of the plan are those that the writers ask for (`may-file` ..), and the words
--- that they leave are those of the step's store (`made-file` ..).
+-- What a plan that goes ahead makes of sound words: the places of the plan are those that the writers ask for (`may-place`, `may-file`,
+-- `may-remove`), and the words that they leave are those of the step's store (`made-enter`, `made-file`, `made-withdraw`).
 use mathlib.Core.Path.{_≡_, refl, sym, ap, _∙_}
-use mathlib.Core.Bool.{Bool, true}
+use mathlib.Core.Logic.{⊎-elim}
+use mathlib.Core.Bool.{Bool, true, false}
 use mathlib.Core.List.{List, [], _∷_, map}
-use Prim.Native.Nat.{ℕ, _+_, _≤_, _<_}
+use Prim.Native.Nat.{ℕ, _+_, _*_, _≤_, _<_}
 use native.Mathlib.Omega.{arith}
 use lib.Dec.{lit<}
 use lib.ListN.{length, take}
-use borrow.Author.Tests.{lt-ltb, ne-eqb}
-use Rattle.rules.proofs.Tests.{both}
+use borrow.Author.Tests.{lt-ltb, le-ltb, ne-eqb}
+use Rattle.rules.specs.Table.{top}
+use Rattle.rules.proofs.Tests.{eq?, both}
 use Rattle.model.specs.Lists.{all, between}
 use Rattle.model.specs.Serial.{validSerial, validFault}
-use Rattle.model.specs.Model.{Fault, Card, Store, cards, faultsHeld, chainFor, found, comparisons, faultCellsOf, filed, historyIn}
-use Rattle.model.specs.Layout.{last, follow, faultWidth, faultsAt, cardWord, readFault, decode, encode, sound}
+use Rattle.model.specs.Model.{Fault, Card, Store, cards, held, faultsHeld, chainFor, comparisons, splitScan, contractScan, faultCellsOf, placed, grown, entered, filed, historyIn, removed, shrunk, withdrawn}
+use Rattle.model.specs.Layout.{last, follow, cardWidth, faultWidth, cardsAt, faultsAt, cardCell, cardWord, readFault, decode, encode, sound}
 use Rattle.model.specs.Meaning.{nextFault}
-use Rattle.model.specs.Words.{fileWords}
-use Rattle.model.specs.Calls.{Step, gives, stays, fileStep}
+use Rattle.model.specs.Words.{placeWords, fileWords, removeWords}
+use Rattle.model.specs.Calls.{Step, gives, stays, written, enterStep, fileStep, showStep, withdrawStep}
 use Rattle.model.proofs.Lists.{between-is}
-use Rattle.model.proofs.Fair.{fault-count}
-use Rattle.model.proofs.Rep.{rep-words}
-use Rattle.model.proofs.Readings.{faults-held-at, free-faults-at}
+use Rattle.model.proofs.Fair.{one, filings, card-count, faults-total, fault-count}
+use Rattle.model.proofs.Sums.{length-total}
+use Rattle.model.proofs.Rep.{Rep, rep-words, size-top}
+use Rattle.model.proofs.Decode.{rep-decode}
+use Rattle.model.proofs.Readings.{held-at, faults-held-at, free-at, free-faults-at}
 use Rattle.model.proofs.Sound.{sound-is, sound-good}
-use Rattle.model.proofs.Look.{look}
-use Rattle.model.proofs.Numbers.{file-numbers}
+use Rattle.model.proofs.Look.{look, address-in}
+use Rattle.model.proofs.Steps.{removed-total}
+use Rattle.model.proofs.Cases.{valid-serial}
+use Rattle.model.proofs.Numbers.{enter-numbers, file-numbers, show-numbers, withdraw-numbers}
 use Rattle.model.proofs.Whole.{taken-in, historyOf}
+use Rattle.model.proofs.Place.{rep-placed}
 use Rattle.model.proofs.File.{rep-filed}
+use Rattle.model.proofs.Remove.{rep-removed}
 use Rattle.store.specs.Cells.{Read}
 use Rattle.store.specs.Search.{faultsFrom}
-use Rattle.store.specs.Plans.{Places, Plans}
-use Rattle.store.specs.Writes.{MayFile}
+use Rattle.store.specs.Plans.{Places, Plans, Holds, Paired}
+use Rattle.store.specs.Writes.{MayPlace, MayFile, MayRemove}
 use Rattle.store.specs.declared.plans.Plan.{Plan}
 use Rattle.store.specs.declared.search.Spot.{Spot}
 use Rattle.store.proofs.AlongLaws.{follow-length}
 use Rattle.store.proofs.StoredLaws.{Stored, read-store}
-use Rattle.store.proofs.FindLaws.{IsHeld, is-held, held-cell}
+use Rattle.store.proofs.FindLaws.{Behind, NotHeld, not-held, IsHeld, is-held, HeldCell, held-cell}
 use Rattle.store.proofs.ShowLaws.{faults-long}
 
 -- cells of histories
@@ -49,24 +57,85 @@ last-inside n [] h = omega arith
 last-inside n (x ∷ []) h = between-is 1 n x .0 (both (between 1 n x) true h .0) .1
 last-inside n (x ∷ y ∷ l) h = last-inside n (y ∷ l) (both (between 1 n x) (all (between 1 n) (y ∷ l)) h .1)
 
--- the last fault of a card in a chain stands in a fault cell
-last-fault : {w : List ℕ} {s : Store} {c : Card} {after : List Card} → Stored w s c after → cardWord w (c .at) 7 ≤ s .faultLimit
-unfolding faultsFrom
-last-fault {w} {s} {c} k =
-    let l = follow (s .faultLimit) (nextFault w) (cardWord w (c .at) 6) in
-    omega (arith, k .last-word, ap (λ (h : List Fault). last (faultCellsOf h)) (sym (k .history)), ap last (cells-back w l), last-inside (s .faultLimit) l (k .history-ends .inside))
+-- a card's history is the chain that its first-fault word leads through, and its last fault stands in a cell of it
+module _ {w : List ℕ} {s : Store} {c : Card} {after : List Card} (k : Stored w s c after) where
+  history-last : cardWord w (c .at) 7 ≡ last (follow (s .faultLimit) (nextFault w) (cardWord w (c .at) 6))
+  unfolding faultsFrom
+  history-last =
+      let l = follow (s .faultLimit) (nextFault w) (cardWord w (c .at) 6) in
+      k .last-word ∙ ap (λ (h : List Fault). last (faultCellsOf h)) (sym (k .history)) ∙ ap last (cells-back w l)
+
+  last-fault : cardWord w (c .at) 7 ≤ s .faultLimit
+  last-fault = let l = follow (s .faultLimit) (nextFault w) (cardWord w (c .at) 6) in omega (arith, history-last, last-inside (s .faultLimit) l (k .history-ends .inside))
+
+-- the cell before a card or behind a chain is a card's, or 0
+prev-inside : {w : List ℕ} {s : Store} {l after : List Card} (prev : ℕ) → ((prev ≡ 0 → ⊥) → Behind w s l after prev) → prev ≤ s .limit
+prev-inside prev f = ⊎-elim (λ (z : prev ≡ 0). omega arith) (λ (d : prev ≡ 0 → ⊥). let k = f d in omega (arith, k .cell-is, k .stored .in-limit)) (eq? prev 0)
 
 -- plans that go ahead
 
-abbrev spotOf : Plan → Bool → Spot
-spotOf r held = record { bucket = r .bucket; held = held; place = r .comparisons; cell = r .cell; prev = r .prev }
+-- the places of a plan as those of a search
+abbrev spotOf : Store → List ℕ → Plan → Bool → Spot
+spotOf s y r held = record { bucket = r .bucket; held = held; place = comparisons y (chainFor s y); cell = r .cell; prev = r .prev }
 
 module _ (w : List ℕ) (e : sound w ≡ true) (bytes : List ℕ) (n : ℕ) {r : Plan} where
-  spot-held : Places (decode w) bytes n r → length (found (take n bytes) (chainFor (decode w) (take n bytes))) ≡ 1
-      → r .comparisons ≡ comparisons (take n bytes) (chainFor (decode w) (take n bytes)) → IsHeld w (decode w) (take n bytes) (spotOf r true)
-  spot-held q l k =
+  spot-none : Places (decode w) bytes n r → look (decode w) (take n bytes) ≡ [] → NotHeld w (decode w) (take n bytes) (spotOf (decode w) (take n bytes) r false)
+  spot-none q l =
+      not-held (sound-is w e .0) (take n bytes) (record { bucket-is = q .bucket-is; held-is = rw l; place-is = refl; cell-is = q .cell-is; prev-is = q .prev-is }) refl
+
+  spot-held : Places (decode w) bytes n r → length (look (decode w) (take n bytes)) ≡ 1 → IsHeld w (decode w) (take n bytes) (spotOf (decode w) (take n bytes) r true)
+  spot-held q l =
       is-held (sound-is w e .0) (take n bytes)
-      (record { bucket-is = q .bucket-is; held-is = sym (lt-ltb 0 (length (found (take n bytes) (chainFor (decode w) (take n bytes)))) (omega arith)); place-is = k; cell-is = q .cell-is; prev-is = q .prev-is }) refl
+      (record { bucket-is = q .bucket-is; held-is = sym (lt-ltb 0 (length (look (decode w) (take n bytes))) (omega arith)); place-is = refl; cell-is = q .cell-is; prev-is = q .prev-is }) refl
+
+  -- the cell of a card that a plan found leads to its history
+  pub planned-cell : Places (decode w) bytes n r → length (look (decode w) (take n bytes)) ≡ 1 → {c f m q : ℕ} → Read w c f m q → HeldCell w (take n bytes) c f (r .cell)
+  planned-cell q l h = held-cell h (spot-held q l)
+
+  -- a serial's bucket is one of the table
+  bucket-top : Places (decode w) bytes n r → r .bucket < top
+  bucket-top q =
+      let t = sound-is w e .0 .fair in
+      omega (arith, q .bucket-is, address-in (decode w) t (take n bytes), t .number, size-top (decode w) t)
+
+  -- Enter
+  module _ (p : Plans (enterStep (decode w) bytes n .answer) (decode w) bytes n r) (z : r .number ≡ 0) where
+    enter-facts : (validSerial bytes n ≡ true) × (look (decode w) (take n bytes) ≡ []) × (held (decode w) < decode w .limit)
+    enter-facts = enter-numbers (decode w) (sound-good w e .0) bytes n .done .0 (sym (p .answer .number-is) ∙ z)
+
+    enter-step : enterStep (decode w) bytes n
+        ≡ stays (gives 0 (comparisons (take n bytes) (chainFor (decode w) (take n bytes))) (splitScan (placed (decode w) (take n bytes))) 0) (entered (decode w) (take n bytes)) []
+    unfolding enterStep
+    enter-step = let (v, l, b) = enter-facts in rw (v, l, ne-eqb (held (decode w)) (decode w .limit) (omega arith))
+
+    enter-none : NotHeld w (decode w) (take n bytes) (spotOf (decode w) (take n bytes) r false)
+    enter-none = spot-none (p .places z) (enter-facts .1)
+
+    pub may-place : {c f m q : ℕ} → Read w c f m q → MayPlace w c f (r .bucket) (r .prev)
+    may-place {c} {f} h =
+        let s = decode w in
+        let t = sound-is w e .0 in
+        let l = read-store h in
+        let some : 0 < length (s .free) = omega (arith, card-count s, t .fair .cells .count, enter-facts .2) in
+        let new = taken-in w cardsAt cardWidth (s .limit) (s .free) (map (map cardCell) (s .buckets)) (lit< tt) some (t .fair .cells) (t .cards) in
+        record {
+          sized = h .sized;
+          bucket = bucket-top (p .places z);
+          behind = omega (arith, prev-inside (r .prev) (enter-none .behind), l .0);
+          free = rw (free-at w s t) (new .0);
+          within = rw (free-at w s t, ← (l .0)) (new .1);
+          held = omega (arith, held-at w s t, enter-facts .2, l .0);
+        }
+
+    -- the words with the new card stand for the store with it, and once grown they are those of the step
+    pub rep-place : {v : List ℕ} → v ≡ placeWords w (r .bucket) (r .prev) (take n bytes) → Rep v (placed (decode w) (take n bytes))
+    rep-place i =
+        let (v, l, b) = enter-facts in
+        rw (i, p .places z .bucket-is, enter-none .prev-is) (rep-placed w (decode w) (sound-is w e .0) (take n bytes) (valid-serial bytes n v) l b)
+
+    pub made-enter : {v u : List ℕ} → v ≡ placeWords w (r .bucket) (r .prev) (take n bytes) → u ≡ encode (grown (decode v)) → u ≡ encode (enterStep (decode w) bytes n .store)
+    unfolding entered
+    made-enter i j = j ∙ ap (λ (s : Store). encode (grown s)) (rep-decode _ _ (rep-place i)) ∙ ap (λ (t : Step). encode (t .store)) (sym enter-step)
 
   -- File
   module _ (day code : ℕ) (p : Plans (fileStep (decode w) bytes n day code .answer) (decode w) bytes n r) (z : r .number ≡ 0) where
@@ -78,8 +147,8 @@ module _ (w : List ℕ) (e : sound w ≡ true) (bytes : List ℕ) (n : ℕ) {r :
     unfolding fileStep
     file-step = let (v, u, l, b) = file-facts in rw (v, u, l, ne-eqb (faultsHeld (decode w)) (decode w .faultLimit) (omega arith))
 
-    file-held : IsHeld w (decode w) (take n bytes) (spotOf r true)
-    file-held = spot-held (p .places z) (file-facts .2) (p .answer .comparisons-are ∙ ap (λ (t : Step). t .answer .comparisons) file-step)
+    file-held : IsHeld w (decode w) (take n bytes) (spotOf (decode w) (take n bytes) r true)
+    file-held = spot-held (p .places z) (file-facts .2)
 
     pub may-file : {c f m q : ℕ} → Read w c f m q → MayFile w c f (r .cell)
     may-file {c} {f} h =
@@ -100,8 +169,72 @@ module _ (w : List ℕ) (e : sound w ≡ true) (bytes : List ℕ) (n : ℕ) {r :
           held = omega (arith, faults-held-at w s t, file-facts .3, l .1);
         }
 
-    pub made-file : fileWords w (r .cell) day code ≡ encode (fileStep (decode w) bytes n day code .store)
-    made-file =
+    pub made-file : {v : List ℕ} → v ≡ fileWords w (r .cell) day code → v ≡ encode (fileStep (decode w) bytes n day code .store)
+    made-file i =
         let (v, u, l, b) = file-facts in
-        rw (file-step, file-held .cell-is)
+        rw (i, file-step, file-held .cell-is)
         (rep-words _ (filed (decode w) (take n bytes) day code) (rep-filed w (decode w) (sound-is w e .0) (take n bytes) day code u (file-held .present) b))
+
+  -- Show
+  module _ (room : List ℕ) (p : Plans (showStep (decode w) bytes n room .answer) (decode w) bytes n r) (z : r .number ≡ 0) where
+    show-facts : (validSerial bytes n ≡ true) × (length (look (decode w) (take n bytes)) ≡ 1) × (2 * length (historyIn (decode w) (take n bytes)) ≤ length room)
+    show-facts = show-numbers (decode w) bytes n room (sound-good w e .0) .done .0 (sym (p .answer .number-is) ∙ z)
+
+    -- the room holds the card's pairs, and with them it is that of the step
+    pub show-holds : Holds (decode w) r room
+    show-holds = record { bytes = bytes; n = n; places = p .places z; one = show-facts .1; wide = show-facts .2 }
+
+    pub show-room : {left : List ℕ} → Paired (decode w) r room left → left ≡ showStep (decode w) bytes n room .room
+    unfolding showStep
+    show-room k =
+        let (v, l, b) = show-facts in
+        k .pairs-are bytes n (p .places z) l ∙ rw (v, l, le-ltb (length room) (2 * length (historyIn (decode w) (take n bytes))) b)
+
+  -- Withdraw
+  module _ (room : List ℕ) (p : Plans (withdrawStep (decode w) bytes n room .answer) (decode w) bytes n r) (z : r .number ≡ 0) where
+    withdraw-facts : (validSerial bytes n ≡ true) × (length (look (decode w) (take n bytes)) ≡ 1) × (2 * length (historyIn (decode w) (take n bytes)) ≤ length room)
+    withdraw-facts = withdraw-numbers (decode w) bytes n room (sound-good w e .0) .done .0 (sym (p .answer .number-is) ∙ z)
+
+    withdraw-step : withdrawStep (decode w) bytes n room
+        ≡ stays (gives 0 (comparisons (take n bytes) (chainFor (decode w) (take n bytes))) (contractScan (removed (decode w) (take n bytes))) (length (historyIn (decode w) (take n bytes))))
+        (withdrawn (decode w) (take n bytes)) (written (historyIn (decode w) (take n bytes)) room)
+    unfolding withdrawStep
+    withdraw-step = let (v, l, b) = withdraw-facts in rw (v, l, le-ltb (length room) (2 * length (historyIn (decode w) (take n bytes))) b)
+
+    withdraw-held : IsHeld w (decode w) (take n bytes) (spotOf (decode w) (take n bytes) r true)
+    withdraw-held = spot-held (p .places z) (withdraw-facts .1)
+
+    -- the same of its room
+    pub withdraw-holds : Holds (decode w) r room
+    withdraw-holds = record { bytes = bytes; n = n; places = p .places z; one = withdraw-facts .1; wide = withdraw-facts .2 }
+
+    pub withdraw-room : {left : List ℕ} → Paired (decode w) r room left → left ≡ withdrawStep (decode w) bytes n room .room
+    withdraw-room k = k .pairs-are bytes n (p .places z) (withdraw-facts .1) ∙ ap (λ (t : Step). t .room) (sym withdraw-step)
+
+    pub may-remove : {c f m q : ℕ} → Read w c f m q → MayRemove w c f (r .bucket) (r .prev) (r .cell)
+    may-remove {c} {f} h =
+        let k = held-cell h withdraw-held in
+        let s = decode w in
+        let t = sound-is w e .0 in
+        let y = take n bytes in
+        let l = read-store h in
+        record {
+          sized = h .sized;
+          bucket = bucket-top (p .places z);
+          behind = omega (arith, prev-inside (r .prev) (withdraw-held .behind), l .0);
+          card = k .from-one;
+          inside = k .in-limit;
+          held = omega (arith, held-at w s t, length-total (cards s), length-total (look s y), removed-total s (t .fair) y one, withdraw-facts .1);
+          filed = omega (arith, faults-held-at w s t, k .count-word, faults-total (cards s), faults-total (look s y), removed-total s (t .fair) y filings);
+          ends = k .history-ends;
+          last-is = rw (withdraw-held .cell-is, ← (l .1)) (history-last (withdraw-held .stored));
+        }
+
+    -- the words without the card stand for the store without it, and once shrunk they are those of the step
+    pub rep-remove : {v : List ℕ} → v ≡ removeWords w (r .bucket) (r .prev) (r .cell) → Rep v (removed (decode w) (take n bytes))
+    rep-remove i =
+        rw (i, p .places z .bucket-is, withdraw-held .prev-is, withdraw-held .cell-is) (rep-removed w (decode w) (sound-is w e .0) (take n bytes) (withdraw-held .present))
+
+    pub made-withdraw : {v u : List ℕ} → v ≡ removeWords w (r .bucket) (r .prev) (r .cell) → u ≡ encode (shrunk (decode v)) → u ≡ encode (withdrawStep (decode w) bytes n room .store)
+    unfolding withdrawn
+    made-withdraw i j = j ∙ ap (λ (s : Store). encode (shrunk s)) (rep-decode _ _ (rep-remove i)) ∙ ap (λ (t : Step). encode (t .store)) (sym withdraw-step)

@@ -3,14 +3,14 @@
 use mathlib.Core.Path.{_≡_}
 use mathlib.Core.Bool.{true, cond}
 use mathlib.Core.List.{List}
-use Prim.Native.Nat.{ℕ, _+_, _-_}
+use Prim.Native.Nat.{ℕ, _+_, _-_, _*_, _≤_}
 use lib.Dec.{eqb}
 use lib.ListN.{length, take}
 use Rattle.rules.specs.Table.{splits, contracts}
 use Rattle.model.specs.Serial.{validSerial}
-use Rattle.model.specs.Model.{Store, held, size, bucket, addressIn, chainFor, found, before, cellsOf}
+use Rattle.model.specs.Model.{Store, held, size, bucket, addressIn, chainFor, found, before, cellsOf, historyIn}
 use Rattle.model.specs.Layout.{first, last, encode}
-use Rattle.model.specs.Calls.{Answer, Step, fileStep}
+use Rattle.model.specs.Calls.{Answer, Step, written, fileStep}
 use Rattle.store.specs.Leaves.{Gives}
 use Rattle.store.specs.declared.Answer as given
 use Rattle.store.specs.declared.plans.Plan.{Plan}
@@ -64,6 +64,18 @@ pub record Ready (step : List ℕ → ℕ → List ℕ → Step) (s : Store) (r 
   pub plan : Plans (step bytes n room .answer) s bytes n r
   pub done : r .number ≡ 0
 
--- the words left are those of the store of the step, whichever serial and room the plan is of
-pub record Made (step : List ℕ → ℕ → List ℕ → Step) (s : Store) (r : Plan) (words : List ℕ) : Type 0 where
+-- the words left follow a plan: they are those of the step's store, whichever serial and room the plan is of
+pub record Follows (step : List ℕ → ℕ → List ℕ → Step) (s : Store) (r : Plan) (words : List ℕ) : Type 0 where
   pub leaves : (bytes : List ℕ) (n : ℕ) (room : List ℕ) → Plans (step bytes n room .answer) s bytes n r → words ≡ encode (step bytes n room .store)
+
+-- a plan's cell is that of a card, whose pairs a room holds
+pub record Holds (s : Store) (r : Plan) (room : List ℕ) : Type 0 where
+  pub bytes : List ℕ
+  pub n : ℕ
+  pub places : Places s bytes n r
+  pub one : length (found (take n bytes) (chainFor s (take n bytes))) ≡ 1
+  pub wide : 2 * length (historyIn s (take n bytes)) ≤ length room
+
+-- the pairs of that card stand in the room, whichever serial has these places
+pub record Paired (s : Store) (r : Plan) (room left : List ℕ) : Type 0 where
+  pub pairs-are : (bytes : List ℕ) (n : ℕ) → Places s bytes n r → length (found (take n bytes) (chainFor s (take n bytes))) ≡ 1 → left ≡ written (historyIn s (take n bytes)) room

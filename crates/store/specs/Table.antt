@@ -1,8 +1,10 @@
 -- What a split and a contraction ask of the words that they write.
+use mathlib.Core.Path.{_≡_}
+use mathlib.Core.Bool.{true}
 use mathlib.Core.List.{List}
 use Prim.Native.Nat.{ℕ, _+_, _≤_, _<_}
 use Rattle.rules.specs.Table.{top, lowP}
-use Rattle.model.specs.Layout.{last, follow}
+use Rattle.model.specs.Layout.{last, follow, fair, encode, decode}
 use Rattle.model.specs.Meaning.{nextCard, bucketWord, bucketCells}
 use Rattle.store.specs.Cells.{Read}
 use Rattle.store.specs.Search.{Ends}
@@ -27,3 +29,8 @@ lastFrom c w h = last (follow c (nextCard w) h)
 
 unfoldable pub lastOf : List ℕ → ℕ → ℕ
 lastOf w b = last (bucketCells w b)
+
+-- the words of a store that is sound but for its load, which an entry or a withdrawal may just have broken
+pub record Fairly (w : List ℕ) : Type 0 where
+  pub store : fair (decode w) ≡ true
+  pub words : encode (decode w) ≡ w

@@ -5,7 +5,7 @@ ghost use mathlib.Core.List.{[]};
 ghost use Rattle.model.specs.Layout.{decode, sound};
 ghost use Rattle.model.specs.Calls.{fileStep};
 ghost use Rattle.store.specs.Leaves.{Does};
-ghost use Rattle.store.specs.Plans.{fileWith, Ready, Made};
+ghost use Rattle.store.specs.Plans.{fileWith, Ready, Follows};
 use crate::Answer;
 use crate::plans;
 use crate::plans::Plan;
@@ -15,7 +15,7 @@ use crate::writes;
 // Does what a plan of File says: the fault goes behind the last one of the card in the plan's cell.
 pub fn make_file(w: &mut [u32], t: Plan, day: u32, code: u32)
     requires { ⌜ (sound (now w) ≡ true) × Ready (fileWith (decode (now w)) day code) (decode (now w)) t ⌝ }
-    ensures { λ _. ⌜ Made (fileWith (decode (now (w .entry))) day code) (decode (now (w .entry))) t (now (w .exit)) ⌝ }
+    ensures { λ _. ⌜ Follows (fileWith (decode (now (w .entry))) day code) (decode (now (w .entry))) t (now (w .exit)) ⌝ }
 {
     let h = search::header_of(w);
     writes::file_at(w, h.cards, h.faults, t.cell, day, code);

@@ -4,10 +4,11 @@ ghost use mathlib.Core.List.{[]};
 ghost use Prim.Native.Nat.{_≤_};
 ghost use lib.ListN.{length};
 ghost use Rattle.model.specs.Layout.{sound};
-ghost use Rattle.model.specs.Calls.{scratchNeed, cleaned, openCall, fileCall, showCall};
+ghost use Rattle.model.specs.Calls.{scratchNeed, cleaned, openCall, enterCall, fileCall, showCall, withdrawCall};
 ghost use Rattle.store.specs.Leaves.{Leaves, Opens};
 
 mod cells;
+pub mod enters;
 pub mod files;
 mod fresh;
 mod front;
@@ -19,6 +20,7 @@ mod serial;
 pub mod shows;
 mod table;
 mod walks;
+pub mod withdraws;
 mod writes;
 
 // What each of the four calls gives.
@@ -68,6 +70,19 @@ fn turned_away(number: u32) -> Answer
     }
 }
 
+// Enters a card with this serial, at the end of its bucket's chain.
+pub fn enter(words: &mut [u32], scratch: &mut [u8], serial: [u8; 16], len: usize) -> Answer
+    ensures { λ r. ⌜ Leaves (enterCall (now (words .entry)) (now (scratch .entry)) serial len) (r .number) (r .comparisons) (r .scanned) (r .faults) (now (words .exit)) [] (now (scratch .exit)) ⌝ }
+{
+    if scratch.len() < marks::NEED {
+        return turned_away(11);
+    }
+    if !check(words, scratch) {
+        return turned_away(3);
+    }
+    enters::enter_in(words, serial, len)
+}
+
 // Adds a fault to the history of the card with this serial.
 pub fn file(
     words: &mut [u32],
@@ -105,4 +120,23 @@ pub fn show(
         return turned_away(3);
     }
     shows::show_in(words, serial, len, room)
+}
+
+// Writes the history of the card with this serial into the room, as Show does, and removes the card.
+pub fn withdraw(
+    words: &mut [u32],
+    scratch: &mut [u8],
+    serial: [u8; 16],
+    len: usize,
+    room: &mut [u32],
+) -> Answer
+    ensures { λ r. ⌜ Leaves (withdrawCall (now (words .entry)) (now (scratch .entry)) serial len (now (room .entry))) (r .number) (r .comparisons) (r .scanned) (r .faults) (now (words .exit)) (now (room .exit)) (now (scratch .exit)) ⌝ }
+{
+    if scratch.len() < marks::NEED {
+        return turned_away(11);
+    }
+    if !check(words, scratch) {
+        return turned_away(3);
+    }
+    withdraws::withdraw_in(words, serial, len, room)
 }

@@ -3,18 +3,17 @@ ghost use mathlib.Core.Path.{_≡_};
 ghost use Prim.Native.Nat.{_+_, _≤_, _<_};
 ghost use lib.ListN.{length, set};
 ghost use Rattle.rules.specs.Table.{top, highMaxp, highP, lowMaxp, lowP};
-ghost use Rattle.model.specs.Layout.{segmentsAt};
+ghost use Rattle.model.specs.Model.{grown, shrunk};
+ghost use Rattle.model.specs.Layout.{segmentsAt, encode, decode};
 ghost use Rattle.model.specs.Meaning.{nextCard, bucketWord};
 ghost use Rattle.model.specs.Words.{openWords, closeWords, movesAt, partWords, splitWords, joinWords};
 ghost use Rattle.store.specs.Cells.{Sized};
 ghost use Rattle.store.specs.Search.{Ends};
-ghost use Rattle.store.specs.Table.{MaySplit, MayJoin, lastFrom, lastOf};
+ghost use Rattle.store.specs.Table.{MaySplit, MayJoin, lastFrom, lastOf, Fairly};
 use crate::cells;
 use crate::cells::Header;
+use crate::front;
 use crate::writes;
-
-// Buckets of a segment.
-const SEGMENT: u32 = 16;
 
 // Whether the card in cell i goes to the new bucket maxp + p.
 fn moves(w: &[u32], c: u32, f: u32, maxp: u32, p: u32, i: u32) -> bool
@@ -57,8 +56,8 @@ fn open_bucket(w: &mut [u32], n: u32)
     requires { ⌜ (segmentsAt + top ≤ length (now w)) × (n < top) ⌝ }
     ensures { λ _. ⌜ now (w .exit) ≡ openWords (now (w .entry)) n ⌝ }
 {
-    if n % SEGMENT == 0 {
-        w[cells::DIRECTORY + (n / SEGMENT) as usize] = 32 + n;
+    if n % front::SEGMENT == 0 {
+        w[cells::DIRECTORY + (n / front::SEGMENT) as usize] = cells::SEGMENTS as u32 + n;
     }
 }
 
@@ -66,8 +65,8 @@ fn close_bucket(w: &mut [u32], n: u32)
     requires { ⌜ (segmentsAt + top ≤ length (now w)) × (n < top) ⌝ }
     ensures { λ _. ⌜ now (w .exit) ≡ closeWords (now (w .entry)) n ⌝ }
 {
-    if n % SEGMENT == 0 {
-        w[cells::DIRECTORY + (n / SEGMENT) as usize] = 0;
+    if n % front::SEGMENT == 0 {
+        w[cells::DIRECTORY + (n / front::SEGMENT) as usize] = 0;
     }
 }
 
@@ -100,6 +99,7 @@ fn low_p(maxp: u32, p: u32) -> u32
     if p == 0 { maxp / 2 - 1 } else { p - 1 }
 }
 
+// maxp and p, words 3 and 4 of the header.
 fn set_state(w: &mut [u32], maxp: u32, p: u32)
     requires { ⌜ segmentsAt + top ≤ length (now w) ⌝ }
     ensures { λ _. ⌜ now (w .exit) ≡ set (set (now (w .entry)) 3 maxp) 4 p ⌝ }
@@ -152,4 +152,28 @@ pub fn join(w: &mut [u32], h: Header)
     writes::put_bucket(w, going, 0);
     close_bucket(w, going);
     set_state(w, low_maxp(maxp, p), b);
+}
+
+// After an accepted entry: one bucket more if there are more than 4 cards a bucket.
+pub fn grow(w: &mut [u32])
+    requires { ⌜ Fairly (now w) ⌝ }
+    ensures { λ _. ⌜ now (w .exit) ≡ encode (grown (decode (now (w .entry)))) ⌝ }
+{
+    let h = front::header(w);
+    let n = cells::word(w, 5);
+    if rules::must_split(n, h.maxp + h.p) {
+        split(w, h);
+    }
+}
+
+// After an accepted withdrawal: one bucket less if there are fewer than 2 cards a bucket, and more than 16 buckets.
+pub fn shrink(w: &mut [u32])
+    requires { ⌜ Fairly (now w) ⌝ }
+    ensures { λ _. ⌜ now (w .exit) ≡ encode (shrunk (decode (now (w .entry)))) ⌝ }
+{
+    let h = front::header(w);
+    let n = cells::word(w, 5);
+    if rules::must_contract(n, h.maxp + h.p) {
+        join(w, h);
+    }
 }

@@ -6,6 +6,7 @@
 //! So no operation here follows or mends a chain of cells; it is the layout alone that knows of cells and of next words.
 
 pub mod calls;
+pub mod damages;
 pub mod job;
 pub mod layout;
 pub mod lists;

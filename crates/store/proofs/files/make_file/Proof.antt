@@ -1,5 +1,4 @@
 -- `files::make_file` meets its contract: the plan's cell is that of the card, and the words written are those of the store with the fault filed.
-use mathlib.Core.Path.{_∙_}
 use borrow.Author.Needs.{needs}
 use Rattle.store.proofs.MakeLaws.{may-file, made-file}
 use Rattle.store.proofs.files.make_file.Statement.{statement}
@@ -14,7 +13,7 @@ file-at-requires c κs =
 returns : tie.Need-returns
 returns c =
     let a = c .before .before .before .before .before .before .before in
-    record { leaves = λ bytes n room q. c .before .before .file-at .ensures ∙ made-file _ (a .pre .0) bytes n _ _ q (a .pre .1 .done) }
+    record { leaves = λ bytes n room q. made-file _ (a .pre .0) bytes n _ _ q (a .pre .1 .done) (c .before .before .file-at .ensures) }
 
 pub make-file-spec : {M : Type 1} → statement M
 make-file-spec =

@@ -1,0 +1,45 @@
+-- `table::shrink` meets its contract: the words are a fair store's, so the load is the store's, and where it asks for a contraction that may be made.
+use mathlib.Core.Path.{sym, _∙_}
+use native.Mathlib.Omega.{arith}
+use borrow.Author.Needs.{needs}
+use Rattle.store.proofs.GrowLaws.{fairly-fits, fairly-room, may-join, shrink-yes, shrink-no}
+use Rattle.store.proofs.table.shrink.Statement.{statement}
+use Rattle.store.proofs.table.shrink.Tie as tie
+
+add-must-contract : tie.Need-add-must-contract
+add-must-contract c = let h = c .before .before .before in omega (arith, fairly-room (h .before .before .before .pre) (h .header .ensures))
+
+join-requires : tie.Need-join-requires
+join-requires c κs =
+    let s = c .before .before .before in
+    let h = s .before .before .before in
+    may-join (h .before .before .before .pre) (h .header .ensures)
+
+returns : tie.Need-returns
+returns c =
+    let r = c .before .before in
+    let t = r .before .before .before in
+    let s = t .before in
+    let h = s .before .before .before in
+    shrink-yes (h .before .before .before .pre) (h .header .ensures) (s .before .word .ensures) (sym (t .must-contract .ensures) ∙ r .before .before .if1 .taken) (r .join .ensures)
+
+returns-2 : tie.Need-returns-2
+returns-2 c =
+    let t = c .before in
+    let s = t .before in
+    let h = s .before .before .before in
+    shrink-no (h .before .before .before .pre) (h .header .ensures) (s .before .word .ensures) (sym (t .must-contract .ensures) ∙ c .if1 .left)
+
+pub shrink-spec : {M : Type 1} → statement M
+shrink-spec =
+    tie.close
+    (tie.spec
+    (λ c κs. fairly-fits (c .before .before .pre))
+    (λ c κs. search needs)
+    add-must-contract
+    (λ c κs. search needs)
+    join-requires
+    (λ c. search needs)
+    returns
+    (λ c. search needs)
+    returns-2)
