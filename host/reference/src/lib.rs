@@ -13,5 +13,6 @@ pub mod lists;
 pub mod operations;
 pub mod random;
 pub mod rules;
+pub mod script;
 pub mod serial;
 pub mod sound;
