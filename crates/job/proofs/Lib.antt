@@ -13,3 +13,4 @@ pub mod Asking
 pub mod Turning
 pub mod JobCases
 pub mod OneOutcome
+pub mod ProgramDemands

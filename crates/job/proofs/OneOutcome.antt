@@ -4,20 +4,8 @@ use mathlib.Core.Path.{_≡_, sym, _∙_}
 use mathlib.Core.List.{List}
 use Prim.Native.Nat.{ℕ}
 use Rattle.job.specs.Counts.{tallyOf}
-use Rattle.job.specs.Runs.{Did}
-use Rattle.job.specs.declared.Done.{Done}
+use Rattle.job.specs.Sequences.{Left, Works}
 use Rattle.job.specs.declared.tally.Tally.{Tally}
-
--- all that a job gives and leaves
-pub record Left : Type 0 where
-  pub done : Done
-  pub tally : Tally
-  pub words : List ℕ
-  pub scratch : List ℕ
-  pub out : List ℕ
-
-abbrev pub Meets : List ℕ → List ℕ → List ℕ → List ℕ → Tally → Left → Type 0
-Meets words scratch text out t l = Did words scratch text out t (l .done) (l .tally) (l .words) (l .scratch) (l .out)
 
 -- the code's tally is known by the model's
 same-tally : (t u : Tally) → tallyOf t ≡ tallyOf u → t ≡ u
@@ -31,7 +19,7 @@ same-tally t u e = λ i.
       comparisons = e i .comparisons;
     }
 
-pub one-outcome : (words scratch text out : List ℕ) (t : Tally) (a b : Left) → Meets words scratch text out t a → Meets words scratch text out t b → a ≡ b
+pub one-outcome : (words scratch text out : List ℕ) (t : Tally) (a b : Left) → Works words scratch text out t a → Works words scratch text out t b → a ≡ b
 one-outcome words scratch text out t a b p q = λ i.
     record {
       done =

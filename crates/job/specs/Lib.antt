@@ -5,3 +5,4 @@ pub mod Text
 pub mod Counts
 pub mod Turns
 pub mod Runs
+pub mod Sequences

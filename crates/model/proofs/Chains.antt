@@ -87,7 +87,12 @@ chain-retarget width new old t u xs y z e f r =
 
 -- a chain is what its next words lead through
 
-follow-step : (fuel : ℕ) (next : ℕ → ℕ) (c : ℕ) → (c ≡ 0 → ⊥) → follow (suc fuel) next c ≡ c ∷ follow fuel next (next c)
+pub follow-none : (fuel : ℕ) (next : ℕ → ℕ) (c : ℕ) → c ≡ 0 → follow fuel next c ≡ []
+unfolding follow
+follow-none zero next c z = refl
+follow-none (suc fuel) next c z = rw z
+
+pub follow-step : (fuel : ℕ) (next : ℕ → ℕ) (c : ℕ) → (c ≡ 0 → ⊥) → follow (suc fuel) next c ≡ c ∷ follow fuel next (next c)
 unfolding follow
 follow-step fuel next c n = rw (ne-eqb c 0 n)
 

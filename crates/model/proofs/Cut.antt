@@ -1,7 +1,7 @@
 -- A chain cut at the card of a serial. Where at most one card of the chain has the serial, the cards before it, the card and the cards
 -- after it are the chain; and what the definitions say over the whole chain, `found`, `without`, `noted`, touches that card alone.
--- So code that walks to the first match, stops there and changes it does what the definitions say. Cite `chain-cut`, or `absent` and
--- `present` where it is known which.
+-- So code that walks to the first match, stops there and changes it does what the definitions say. Cite `absent` or
+-- `present`, by which of them is known.
 use Prim.Native.Nat.{ℕ, _+_, _≤_}
 use mathlib.Core.Path.{_≡_, refl, ap}
 use mathlib.Core.Logic.{_⊎_, inl, inr}
@@ -10,10 +10,8 @@ use mathlib.Core.Bool.{true, false}
 use native.Mathlib.Omega.{arith}
 use lib.ListN.{length}
 use Rattle.rules.proofs.Tests.{by-cases}
-use Rattle.model.specs.Model.{Fault, Card, Store, chainFor, is, found, before, comparisons, withFault, noted, without}
+use Rattle.model.specs.Model.{Fault, Card, is, found, before, comparisons, withFault, noted, without}
 use Rattle.model.proofs.Lists.{length-none}
-use Rattle.model.proofs.Fair.{Fair}
-use Rattle.model.proofs.Look.{look-once}
 
 -- no card has the serial
 pub record Absent (y : List ℕ) (chain : List Card) : Type 0 where
@@ -93,7 +91,3 @@ module _ (y : List ℕ) where
       go : Absent y chain ⊎ Present y chain → Present y chain
       go (inl a) = absurd (omega (arith, ap length (a .none)))
       go (inr p) = p
-
--- every chain of a fair store is such a chain
-pub chain-cut : (s : Store) → Fair s → (y : List ℕ) → Absent y (chainFor s y) ⊎ Present y (chainFor s y)
-chain-cut s r y = cut y (chainFor s y) (look-once s r y)

@@ -23,12 +23,12 @@ use Rattle.model.proofs.Readings.{stand-at}
 use Rattle.model.proofs.Whole.{Whole, fault-chain, fault-cut, fault-in, fault-word, apart-less}
 
 -- a walk from no cell
-clear-none : (fuel c : ℕ) (u : List ℕ) → clearWords fuel c u 0 ≡ u
+pub clear-none : (fuel c : ℕ) (u : List ℕ) → clearWords fuel c u 0 ≡ u
 unfolding clearWords
 clear-none zero c u = refl
 clear-none (suc fuel) c u = refl
 
-clear-step : (fuel c : ℕ) (u : List ℕ) (i : ℕ) → 1 ≤ i
+pub clear-step : (fuel c : ℕ) (u : List ℕ) (i : ℕ) → 1 ≤ i
     → clearWords (suc fuel) c u i ≡ clearWords fuel c (set (set u (faultAt c i 1) 0) (faultAt c i 2) 0) (getD u (faultAt c i 0) 0)
 unfolding clearWords
 clear-step fuel c u i h = rw (ne-eqb i 0 (omega arith))

@@ -7,7 +7,6 @@ pub mod Places
 pub mod Chains
 pub mod Part
 pub mod Writes
-pub mod Lend
 -- The store as facts
 pub mod Fair
 -- The words of a store
@@ -34,6 +33,7 @@ pub mod Demand3
 pub mod Demand2
 pub mod Outcomes
 pub mod Demands
+pub mod Deeds
 -- What each change writes
 pub mod Whole
 pub mod Segments
@@ -46,4 +46,3 @@ pub mod Remove
 pub mod Parting
 pub mod Split
 pub mod Join
-pub mod Changes

@@ -26,7 +26,7 @@ use Rattle.model.proofs.Lists.{same-refl, same-is, Every, every-at, at-
 use Rattle.model.proofs.Tables.{length-table, table-at, table-from, take-table}
 use Rattle.model.proofs.Sums.{bit, count, total-append, total-map, total-flat}
 use Rattle.model.proofs.Each.{many}
-use Rattle.model.proofs.Chains.{Stand}
+use Rattle.model.proofs.Chains.{Stand, follow-none}
 use Rattle.model.proofs.Part.{cellIn, Held}
 use Rattle.model.proofs.Serials.{serial-padded, words-back}
 use Rattle.model.proofs.Fair.{Fair, inCell, faultIn, named, card-cells, card-count, fault-cells, fault-count, load-is, is-load, size-least}
@@ -487,10 +487,6 @@ filed-by-cell w r z f =
       total-flat f (historyCells w) (heldCells w),
     )
   where
-    nothing : (fuel : ℕ) → follow fuel (nextFault w) 0 ≡ []
-    nothing zero = refl
-    nothing (suc fuel) = refl
-
     none : (l : List ℕ) → Every (λ i. cardWord w i 6 ≡ 0) l → total (λ i. total f (historyCells w i)) l ≡ 0
     none [] e = refl
-    none (i ∷ l) e = omega (arith, ap (λ (h : ℕ). total f (follow (faultLimitIn w) (nextFault w) h)) (e .0), ap (total f) (nothing (faultLimitIn w)), none l (e .1))
+    none (i ∷ l) e = omega (arith, ap (total f) (follow-none (faultLimitIn w) (nextFault w) (cardWord w i 6) (e .0)), none l (e .1))

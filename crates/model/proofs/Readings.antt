@@ -9,9 +9,9 @@ use lib.Dec.{lit<}
 use lib.ListN.{length, getD}
 use Rattle.model.specs.Serial.{serialOk}
 use Rattle.model.specs.Model.{Store, Card, cards, held, faultsHeld, bucket, cellsOf, faultCellsOf}
-use Rattle.model.specs.Layout.{Cell, headOr, chained, cardWidth, segmentsAt, cardsAt, cardCell, header, front, first, last, cardWord, readCard, readFault, readChain}
-use Rattle.model.specs.Meaning.{bucketWord, bucketCells, historyCells, serialIn, bytesIn}
-use Rattle.model.proofs.Lists.{map-append, Every, every-imp, every-parts}
+use Rattle.model.specs.Layout.{Cell, headOr, chained, cardWidth, segmentsAt, cardsAt, cardCell, header, front, first, last, cardWord, readCard, readChain}
+use Rattle.model.specs.Meaning.{bucketWord, bucketCells, serialIn, bytesIn}
+use Rattle.model.proofs.Lists.{map-append, Every}
 use Rattle.model.proofs.Chains.{Memory, Stands, Stand, stand-parts, chained-append}
 use Rattle.model.proofs.Part.{cellIn}
 use Rattle.model.proofs.Serials.{serial-read}
@@ -80,10 +80,6 @@ module _ (w : List ℕ) (s : Store) (r : Rep w s) where
   pub chain-at : (b : ℕ) → b < length (s .buckets) → bucketCells w b ≡ cellsOf (bucket s b)
   chain-at b h = sym (chain-back b h .0)
 
-  pub serials-at : (b : ℕ) → b < length (s .buckets) → Every (λ c. serialIn w (c .at) ≡ c .serial) (bucket s b)
-  unfolding serialIn bytesIn readCard
-  serials-at b h = every-imp (λ c. readCard w (c .at) ≡ c) (λ c. serialIn w (c .at) ≡ c .serial) (bucket s b) (λ c e. ap (λ (c : Card). c .serial) e) (chain-back b h .1)
-
   -- the card x of bucket b
   module _ (b : ℕ) (xs : List Card) (x : Card) (ys : List Card) (e : bucket s b ≡ xs ++ (x ∷ ys)) where
     card-stands : Stands (cellIn w cardsAt cardWidth) cardWidth (record { at = cardCell x .at; words = headOr 0 (map cardCell ys) ∷ cardCell x .words })
@@ -106,17 +102,3 @@ module _ (w : List ℕ) (s : Store) (r : Rep w s) where
     pub fault-count-at : cardWord w (x .at) 8 ≡ length (faultCellsOf (x .faults))
     unfolding cardWord cardCell
     fault-count-at = card-stands 8 (lit< tt)
-
-    card-at : b < length (s .buckets) → readCard w (x .at) ≡ x
-    card-at h = every-parts (λ c. readCard w (c .at) ≡ c) xs (x ∷ ys) (subst (Every (λ c. readCard w (c .at) ≡ c)) e (chain-back b h .1)) .1 .0
-
-    -- its history
-    history-back : b < length (s .buckets) → (faultCellsOf (x .faults) ≡ historyCells w (x .at)) × Every (λ f. readFault w (f .at) ≡ f) (x .faults)
-    unfolding readCard readFault historyCells
-    history-back h = read-back (λ f. f .at) (readFault w) (λ i. refl) (historyCells w (x .at)) (x .faults) (ap (λ (c : Card). c .faults) (card-at h))
-
-    pub history-at : b < length (s .buckets) → historyCells w (x .at) ≡ faultCellsOf (x .faults)
-    history-at h = sym (history-back h .0)
-
-    pub faults-at : b < length (s .buckets) → Every (λ f. readFault w (f .at) ≡ f) (x .faults)
-    faults-at h = history-back h .1

@@ -36,22 +36,22 @@ use Rattle.model.proofs.Parting.{Parting, turned, cell-over, end-set}
 
 -- the machine, step by step
 
-part-none : (fuel m p : ℕ) (w : List ℕ) (k g : ℕ) → partWords fuel m p w k g 0 ≡ set (set w (linkAt p k) 0) (linkAt (m + p) g) 0
+pub part-none : (fuel m p : ℕ) (w : List ℕ) (k g : ℕ) → partWords fuel m p w k g 0 ≡ set (set w (linkAt p k) 0) (linkAt (m + p) g) 0
 unfolding partWords
 part-none zero m p w k g = refl
 part-none (suc fuel) m p w k g = refl
 
-part-goes : (fuel m p : ℕ) (w : List ℕ) (k g x : ℕ) → 1 ≤ x → movesAt w m p x ≡ true
+pub part-goes : (fuel m p : ℕ) (w : List ℕ) (k g x : ℕ) → 1 ≤ x → movesAt w m p x ≡ true
     → partWords (suc fuel) m p w k g x ≡ partWords fuel m p (set w (linkAt (m + p) g) x) k x (cardWord w x 0)
 unfolding partWords
 part-goes fuel m p w k g x h e = rw (ne-eqb x 0 (omega arith), e)
 
-part-stays : (fuel m p : ℕ) (w : List ℕ) (k g x : ℕ) → 1 ≤ x → movesAt w m p x ≡ false
+pub part-stays : (fuel m p : ℕ) (w : List ℕ) (k g x : ℕ) → 1 ≤ x → movesAt w m p x ≡ false
     → partWords (suc fuel) m p w k g x ≡ partWords fuel m p (set w (linkAt p k) x) x g (cardWord w x 0)
 unfolding partWords
 part-stays fuel m p w k g x h e = rw (ne-eqb x 0 (omega arith), e)
 
-ats-cards : (l : List Card) → atsOf (map cardCell l) ≡ cellsOf l
+pub ats-cards : (l : List Card) → atsOf (map cardCell l) ≡ cellsOf l
 unfolding cardCell
 ats-cards [] = refl
 ats-cards (c ∷ cs) = ap (λ (l : List ℕ). c .at ∷ l) (ats-cards cs)

@@ -1,8 +1,7 @@
 -- Members of a list of cells, and walks by next words. A fact of each element is a fact of each number that stands in the list
 -- (`every-in`, `in-every`). A walk that ends makes the cells that are read on it stand as a chain (`led-stand`), and a chain that stands
--- is such a walk (`stand-led`). For code that marks the cells it walks through: cells in range, none twice, are no more than there are, so
--- such a walk is what `follow` reads (`walk-read`); and if they are as many, they are each of them exactly once (`marked-once`), and weigh
--- what all of them weigh, in whatever order (`once-total`).
+-- is such a walk (`stand-led`). Cells in range, none twice and as many as there are, are each of them exactly
+-- once (`marked-once`), and weigh what all of them weigh, in whatever order (`once-total`).
 use mathlib.Core.Path.{_≡_, refl, sym, ap, _∙_, subst}
 use mathlib.Core.Logic.{⊎-elim}
 use mathlib.Core.List.{List, [], _∷_, map}
@@ -117,12 +116,6 @@ led-follow next (suc fuel) h [] r p b = rw (eq-eqb h 0 r)
 led-follow next zero h (x ∷ l) r p b = absurd (omega arith)
 led-follow next (suc fuel) h (x ∷ l) r p b =
     rw (ne-eqb h 0 (omega (arith, r .0, p .0)), r .0) (ap (λ (l : List ℕ). x ∷ l) (led-follow next fuel (next x) l (r .1) (p .1) (omega arith)))
-
--- a walk that ends, through cells of a part, none of them twice, is what `follow` reads
-pub walk-read : (next : ℕ → ℕ) (n h : ℕ) (l : List ℕ) → Leads next h l → ((i : ℕ) → In i l → (1 ≤ i) × (i ≤ n)) → ((i : ℕ) → times i l ≤ 1) → follow n next h ≡ l
-walk-read next n h l r p o =
-    led-follow next n h l r (in-every (λ i. 1 ≤ i) l (λ i q. p i q .0))
-    (count-bound n l (λ i q. p i (omega (arith, times-count i l))) (λ i. omega (arith, times-count i l, o i)))
 
 -- cell i has the m words that follow the next word of i
 abbrev pub Reads : Memory → ℕ → (ℕ → Cell) → ℕ → Type 0

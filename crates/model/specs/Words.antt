@@ -127,26 +127,3 @@ unfoldable pub shrinkWords : List ℕ → List ℕ
 shrinkWords w = cond (contracts (getD w 5 0) (bucketsIn w)) (joinWords w (last (bucketCells w (lowP (getD w 3 0) (getD w 4 0))))) w
 
 -- the accepted calls, from the words and the serial alone
-
--- a serial's bucket and chain; the cells before the card that has the serial, and that card's cell
-unfoldable pub bucketFor : List ℕ → List ℕ → ℕ
-bucketFor w y = addressOf (codeOf y) (getD w 3 0) (getD w 4 0)
-
-unfoldable pub cellsFor : List ℕ → List ℕ → List ℕ
-cellsFor w y = bucketCells w (bucketFor w y)
-
-unfoldable pub beforeIn : List ℕ → List ℕ → List ℕ → List ℕ
-beforeIn w y [] = []
-beforeIn w y (i ∷ l) = cond (same y (serialIn w i)) [] (i ∷ beforeIn w y l)
-
-unfoldable pub foundIn : List ℕ → List ℕ → List ℕ → List ℕ
-foundIn w y l = keep (λ i. same y (serialIn w i)) l
-
-unfoldable pub enterWords : List ℕ → List ℕ → List ℕ
-enterWords w y = growWords (placeWords w (bucketFor w y) (last (cellsFor w y)) y)
-
-unfoldable pub noteWords : List ℕ → List ℕ → ℕ → ℕ → List ℕ
-noteWords w y day code = fileWords w (first (foundIn w y (cellsFor w y))) day code
-
-unfoldable pub withdrawWords : List ℕ → List ℕ → List ℕ
-withdrawWords w y = shrinkWords (removeWords w (bucketFor w y) (last (beforeIn w y (cellsFor w y))) (first (foundIn w y (cellsFor w y))))

@@ -23,15 +23,7 @@ pub fault-place : {w : List ℕ} {c f : ℕ} → Sized w c f → (i k : ℕ) →
 unfolding faultWord cellAt faultsAt cardsAt
 fault-place {w} s i k = rw (s .limit)
 
--- the limit and the width of a part
-pub limit-cards : {w : List ℕ} {c f : ℕ} → Sized w c f → limitOf w false ≡ c
-unfolding limitOf
-limit-cards s = s .limit
-
-pub limit-faults : {w : List ℕ} {c f : ℕ} → Sized w c f → limitOf w true ≡ f
-unfolding limitOf
-limit-faults s = s .faultLimit
-
+-- the width of a part
 pub width-some : (faults : Bool) → 0 < widthOf faults
 unfolding widthOf
 width-some true = omega arith

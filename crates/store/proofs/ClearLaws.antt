@@ -1,6 +1,6 @@
 -- A history that is cleared cell by cell: at each turn, clearing what is left gives what clearing the whole gives (`Clearing`), since no
--- next word is written.
-use mathlib.Core.Path.{_≡_, refl, sym, ap, _∙_, subst}
+-- next word is written. Cleared, it is put before the free cells (`give-is`).
+use mathlib.Core.Path.{_≡_, refl, sym, ap, _∙_}
 use mathlib.Core.List.{List}
 use Prim.Native.Nat.{ℕ, zero, suc, _≤_, _<_}
 use native.Mathlib.Omega.{arith}
@@ -10,10 +10,11 @@ use lib.Seq.{getD-set-other}
 use Rattle.model.specs.Layout.{cellAt, follow, faultWord}
 use Rattle.model.specs.Meaning.{nextFault}
 use Rattle.model.specs.Words.{faultAt, clearWords, giveWords}
+use Rattle.model.proofs.Give.{clear-none, clear-step}
 use Rattle.store.specs.Cells.{Sized}
 use Rattle.store.specs.Search.{Ends}
 use Rattle.store.proofs.AlongLaws.{follow-length}
-use Rattle.store.proofs.EndLaws.{ends-open, ends-frame, ends-less}
+use Rattle.store.proofs.EndsLaws.{ends-on, ends-frame, ends-less}
 use Rattle.store.proofs.WriteLaws.{sized-set, fault-past}
 
 -- a word of a fault cell, by the card limit
@@ -30,16 +31,6 @@ pub record Clearing (c f : ℕ) (w₀ : List ℕ) (first : ℕ) (w : List ℕ) (
 
 pub clear-start : {w : List ℕ} {c f first : ℕ} → Sized w c f → Ends f (nextFault w) first → Clearing c f w first w first
 clear-start {w} {f = f} {first = first} s e = record { sized = s; ends = e; fuel = f; enough = follow-length f (nextFault w) first; same = refl }
-
-clear-none : (fuel c : ℕ) (w : List ℕ) → clearWords fuel c w 0 ≡ w
-unfolding clearWords
-clear-none zero c w = refl
-clear-none (suc fuel) c w = refl
-
-clear-more : (fuel c : ℕ) (w : List ℕ) (i : ℕ) → (i ≡ 0 → ⊥)
-    → clearWords (suc fuel) c w i ≡ clearWords fuel c (set (set w (faultAt c i 1) 0) (faultAt c i 2) 0) (getD w (faultAt c i 0) 0)
-unfolding clearWords
-clear-more fuel c w i ne = rw (ne-eqb i 0 ne)
 
 module _ {c f : ℕ} {w₀ : List ℕ} {first : ℕ} {w : List ℕ} {i : ℕ} (a : Clearing c f w₀ first w i) where
   pub clear-end : i ≡ 0 → w ≡ clearWords f c w₀ first
@@ -58,11 +49,11 @@ module _ {c f : ℕ} {w₀ : List ℕ} {first : ℕ} {w : List ℕ} {i : ℕ} (a
         ∙ ap (λ (l : List ℕ). getD l (faultAt c k 0) 0) e₁ ∙ getD-set-other w (faultAt c i 1) (faultAt c k 0) 0 0 (omega arith)
         ∙ sym (fault-read (a .sized) k 0)
 
-    behind : Ends f (nextFault v) next × (follow f (nextFault v) next ≡ follow f (nextFault w) (nextFault w i))
-    behind = rw n (ends-frame (ends-open (a .ends) ne .behind) (nextFault v) (λ k p. agree k))
+    behind : (follow f (nextFault v) next ≡ follow f (nextFault w) (nextFault w i)) × Ends f (nextFault v) next
+    behind = rw n (ends-frame (ends-on (a .ends) ne .1) (nextFault v) (λ k p. agree k))
 
     pub clear-less : length (follow f (nextFault v) next) < length (follow f (nextFault w) i)
-    clear-less = omega (arith, ap length (behind .1), ends-less (a .ends) ne)
+    clear-less = omega (arith, ap length (behind .0), ends-less (a .ends) ne)
 
     pub clear-next : Clearing c f w₀ first v next
     clear-next = go (a .fuel) (a .enough) (a .same)
@@ -72,10 +63,10 @@ module _ {c f : ℕ} {w₀ : List ℕ} {first : ℕ} {w : List ℕ} {i : ℕ} (a
         go (suc fuel) b s =
             record {
               sized = sized;
-              ends = behind .0;
+              ends = behind .1;
               fuel = fuel;
               enough = omega (arith, clear-less);
-              same = rw (e₂, e₁, n, fault-read (a .sized) i 0) (sym (clear-more fuel c w i ne) ∙ s);
+              same = rw (e₂, e₁, n, fault-read (a .sized) i 0) (sym (clear-step fuel c w i (omega arith)) ∙ s);
             }
 
 -- a history given back: none, or its cells cleared and put before the free ones

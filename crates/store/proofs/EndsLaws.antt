@@ -5,19 +5,19 @@ use mathlib.Core.Path.{_≡_, refl, sym, ap, subst, _∙_}
 use mathlib.Core.Logic.{⊎-elim}
 use mathlib.Core.Bool.{true}
 use mathlib.Core.List.{List, [], _∷_}
-use Prim.Native.Nat.{ℕ, zero, suc, _≤_, _<_}
+use Prim.Native.Nat.{ℕ, _≤_, _<_}
 use native.Mathlib.Omega.{arith}
 use lib.ListN.{length}
-use borrow.Author.Tests.{ne-eqb}
 use Rattle.rules.proofs.Tests.{both, eq?, lt?}
 use Rattle.model.specs.Lists.{between, all}
 use Rattle.model.specs.Layout.{last, follow}
 use Rattle.model.specs.Meaning.{Leads}
 use Rattle.model.proofs.Lists.{between-is}
 use Rattle.model.proofs.Sums.{count, bit-same, bit-other}
-use Rattle.model.proofs.Walks.{times-count, every-in, all-every}
+use Rattle.model.proofs.Walks.{times-count, every-in, in-every, all-every, led-follow}
 use Rattle.store.specs.Search.{Ends}
 use Rattle.store.proofs.AlongLaws.{follow-length}
+use Rattle.store.proofs.Walking.{lastOr, last-or}
 
 -- cells among 1 to the limit
 inside-in : (limit : ℕ) (l : List ℕ) → all (between 1 limit) l ≡ true → (i : ℕ) → 0 < count i l → (1 ≤ i) × (i ≤ limit)
@@ -30,20 +30,8 @@ led-frame next new h (x ∷ l) f r =
     (r .0, subst (λ (n : ℕ). Leads new n l) (sym (f x (omega (arith, bit-same x x refl)))) (led-frame next new (next x) l (λ i p. f i (omega arith)) (r .1)))
 
 -- a walk to its end is what `follow` reads, with fuel enough
-led-follow : (limit : ℕ) (next : ℕ → ℕ) (fuel h : ℕ) (l : List ℕ) → Leads next h l → all (between 1 limit) l ≡ true → length l ≤ fuel → follow fuel next h ≡ l
-unfolding follow
-led-follow limit next zero h [] r a b = refl
-led-follow limit next (suc fuel) h [] r a b = rw r
-led-follow limit next zero h (x ∷ l) r a b = absurd (omega arith)
-led-follow limit next (suc fuel) h (x ∷ l) r a b =
-    let c = both (between 1 limit x) (all (between 1 limit) l) a in
-    rw (ne-eqb h 0 (omega (arith, r .0, between-is 1 limit x .0 (c .0) .0)), r .0)
-    (ap (λ (l : List ℕ). x ∷ l) (led-follow limit next fuel (next x) l (r .1) (c .1) (omega arith)))
-
-pub follow-none : (limit : ℕ) (next : ℕ → ℕ) (h : ℕ) → h ≡ 0 → follow limit next h ≡ []
-unfolding follow
-follow-none zero next h z = refl
-follow-none (suc limit) next h z = rw z
+walked : (limit : ℕ) (next : ℕ → ℕ) (fuel h : ℕ) (l : List ℕ) → Leads next h l → all (between 1 limit) l ≡ true → length l ≤ fuel → follow fuel next h ≡ l
+walked limit next fuel h l r a b = led-follow next fuel h l r (in-every (λ i. 1 ≤ i) l (λ i p. inside-in limit l a i (omega (arith, times-count i l)) .0)) b
 
 module _ {limit : ℕ} {next : ℕ → ℕ} {h : ℕ} (e : Ends limit next h) where
   pub ends-in : (i : ℕ) → 0 < count i (follow limit next h) → (1 ≤ i) × (i ≤ limit)
@@ -58,7 +46,7 @@ module _ {limit : ℕ} {next : ℕ → ℕ} {h : ℕ} (e : Ends limit next h) wh
   ends-frame new f =
       let l = follow limit next h in
       let r : Leads new h l = led-frame next new h l f (e .leads) in
-      let s : follow limit new h ≡ l = led-follow limit new limit h l r (e .inside) (follow-length limit next h) in
+      let s : follow limit new h ≡ l = walked limit new limit h l r (e .inside) (follow-length limit next h) in
       (s, record { leads = rw s r; inside = rw s (e .inside) })
 
   module _ (some : h ≡ 0 → ⊥) where
@@ -71,11 +59,20 @@ module _ {limit : ℕ} {next : ℕ → ℕ} {h : ℕ} (e : Ends limit next h) wh
             let b = both (between 1 limit x) (all (between 1 limit) l) a .1 in
             let s : Leads next (next h) l = rw (r .0) (r .1) in
             let t : follow limit next (next h) ≡ l =
-            led-follow limit next limit (next h) l s b (omega (arith, follow-length limit next h, ap length q)) in
+            walked limit next limit (next h) l s b (omega (arith, follow-length limit next h, ap length q)) in
             (q ∙ (λ j. sym (r .0) j ∷ sym t j), record { leads = rw t s; inside = rw t b })
 
     pub ends-here : (1 ≤ h) × (h ≤ limit)
     ends-here = ends-in h (omega (arith, ap (count h) (ends-on .0), bit-same h h refl))
+
+    -- the last cell is one of them
+    pub ends-last : {j : ℕ} → j ≡ last (follow limit next h) → (1 ≤ j) × (j ≤ limit)
+    unfolding last
+    ends-last q = rw (q, ends-on .0) (go h (follow limit next (next h)) (subst (λ (l : List ℕ). all (between 1 limit) l ≡ true) (ends-on .0) (e .inside)))
+      where
+        go : (x : ℕ) (l : List ℕ) → all (between 1 limit) (x ∷ l) ≡ true → (1 ≤ last (x ∷ l)) × (last (x ∷ l) ≤ limit)
+        go x [] a = between-is 1 limit x .0 (both (between 1 limit x) (all (between 1 limit) []) a .0)
+        go x (y ∷ l) a = go y l (both (between 1 limit x) (all (between 1 limit) (y ∷ l)) a .1)
 
     -- the measure
     pub ends-less : length (follow limit next (next h)) < length (follow limit next h)
@@ -104,22 +101,7 @@ ends-apart {limit} {next} {h} e some =
     ⊎-elim (λ (p : 0 < count h l). absurd (omega (arith, not-longer limit next l (next h) refl (ends-on e some .1) h p, ends-less e some)))
     (λ (p : count h l ≤ 0). omega arith) (lt? 0 (count h l))
 
--- the last of some cells, or d
-unfoldable pub lastOr : ℕ → List ℕ → ℕ
-lastOr d [] = d
-lastOr d (x ∷ l) = lastOr x l
-
-pub last-or : (l : List ℕ) → lastOr 0 l ≡ last l
-unfolding lastOr last
-last-or [] = refl
-last-or (x ∷ l) = go x l
-  where
-    go : (x : ℕ) (l : List ℕ) → lastOr x l ≡ last (x ∷ l)
-    go x [] = refl
-    go x (y ∷ l) = go y l
-
 pub last-to : {limit : ℕ} {next : ℕ → ℕ} {h : ℕ} → Ends limit next h → last (follow limit next h) ≤ limit
-unfolding lastOr
 last-to {limit} {next} {h} e = omega (arith, last-or (follow limit next h), go 0 (follow limit next h) (omega arith) (e .inside))
   where
     go : (d : ℕ) (l : List ℕ) → d ≤ limit → all (between 1 limit) l ≡ true → lastOr d l ≤ limit

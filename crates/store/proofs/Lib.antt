@@ -23,7 +23,6 @@ pub mod PartsSound
 pub mod SoundParts
 pub mod Decides
 pub mod AlongLaws
-pub mod EndLaws
 pub mod ClearLaws
 -- Laws of the search, of the words of a store as they are read, and of what is found there
 pub mod SearchLaws

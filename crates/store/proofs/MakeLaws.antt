@@ -17,7 +17,7 @@ use Rattle.model.specs.Model.{Fault, Card, Store, cards, held, faultsHeld, chai
 use Rattle.model.specs.Layout.{last, follow, cardWidth, faultWidth, cardsAt, faultsAt, cardCell, cardWord, readFault, decode, encode, sound}
 use Rattle.model.specs.Meaning.{nextFault}
 use Rattle.model.specs.Words.{placeWords, fileWords, removeWords}
-use Rattle.model.specs.Calls.{Step, gives, stays, written, enterStep, fileStep, withdrawStep}
+use Rattle.model.specs.Calls.{Step, gives, stays, written, enterStep, fileStep, showStep, withdrawStep}
 use Rattle.model.proofs.Lists.{between-is}
 use Rattle.model.proofs.Fair.{one, filings, card-count, faults-total, fault-count}
 use Rattle.model.proofs.Sums.{length-total}
@@ -28,7 +28,7 @@ use Rattle.model.proofs.Sound.{sound-is, sound-good}
 use Rattle.model.proofs.Look.{look, address-in}
 use Rattle.model.proofs.Steps.{removed-total}
 use Rattle.model.proofs.Cases.{valid-serial}
-use Rattle.model.proofs.Numbers.{enter-numbers, file-numbers, withdraw-numbers}
+use Rattle.model.proofs.Numbers.{enter-numbers, file-numbers, show-numbers, withdraw-numbers}
 use Rattle.model.proofs.Whole.{taken-in, historyOf}
 use Rattle.model.proofs.Place.{rep-placed}
 use Rattle.model.proofs.File.{rep-filed}
@@ -175,6 +175,21 @@ module _ (w : List ℕ) (e : sound w ≡ true) (bytes : List ℕ) (n : ℕ) {r :
         rw (i, file-step, file-held .cell-is)
         (rep-words _ (filed (decode w) (take n bytes) day code) (rep-filed w (decode w) (sound-is w e .0) (take n bytes) day code u (file-held .present) b))
 
+  -- Show
+  module _ (room : List ℕ) (p : Plans (showStep (decode w) bytes n room .answer) (decode w) bytes n r) (z : r .number ≡ 0) where
+    show-facts : (validSerial bytes n ≡ true) × (length (look (decode w) (take n bytes)) ≡ 1) × (2 * length (historyIn (decode w) (take n bytes)) ≤ length room)
+    show-facts = show-numbers (decode w) bytes n room (sound-good w e .0) .done .0 (sym (p .answer .number-is) ∙ z)
+
+    -- the room holds the card's pairs, and with them it is that of the step
+    pub show-holds : Holds (decode w) r room
+    show-holds = record { bytes = bytes; n = n; places = p .places z; one = show-facts .1; wide = show-facts .2 }
+
+    pub show-room : {left : List ℕ} → Paired (decode w) r room left → left ≡ showStep (decode w) bytes n room .room
+    unfolding showStep
+    show-room k =
+        let (v, l, b) = show-facts in
+        k .pairs-are bytes n (p .places z) l ∙ rw (v, l, le-ltb (length room) (2 * length (historyIn (decode w) (take n bytes))) b)
+
   -- Withdraw
   module _ (room : List ℕ) (p : Plans (withdrawStep (decode w) bytes n room .answer) (decode w) bytes n r) (z : r .number ≡ 0) where
     withdraw-facts : (validSerial bytes n ≡ true) × (length (look (decode w) (take n bytes)) ≡ 1) × (2 * length (historyIn (decode w) (take n bytes)) ≤ length room)
@@ -189,7 +204,7 @@ module _ (w : List ℕ) (e : sound w ≡ true) (bytes : List ℕ) (n : ℕ) {r :
     withdraw-held : IsHeld w (decode w) (take n bytes) (spotOf (decode w) (take n bytes) r true)
     withdraw-held = spot-held (p .places z) (withdraw-facts .1)
 
-    -- the room holds the card's pairs, and with them it is that of the step
+    -- the same of its room
     pub withdraw-holds : Holds (decode w) r room
     withdraw-holds = record { bytes = bytes; n = n; places = p .places z; one = withdraw-facts .1; wide = withdraw-facts .2 }
 

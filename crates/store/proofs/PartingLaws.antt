@@ -5,12 +5,11 @@ use mathlib.Core.Path.{_≡_, refl, sym, ap, _∙_}
 use mathlib.Core.Logic.{⊎-elim}
 use mathlib.Core.Bool.{true, false}
 use mathlib.Core.List.{List}
-use Prim.Native.Nat.{ℕ, zero, suc, _+_, _-_, _≤_, _<_}
+use Prim.Native.Nat.{ℕ, suc, _+_, _-_, _≤_, _<_}
 use native.Mathlib.Omega.{arith}
 use lib.Dec.{lit<}
 use lib.ListN.{length, set}
 use lib.Seq.{getD-set-other}
-use borrow.Author.Tests.{ne-eqb}
 use Rattle.rules.specs.Table.{top}
 use Rattle.rules.proofs.Tests.{eq?}
 use Rattle.model.specs.Layout.{cardWidth, cardsAt, follow, cardWord}
@@ -18,6 +17,7 @@ use Rattle.model.specs.Meaning.{nextCard, bucketWord}
 use Rattle.model.specs.Words.{cardAt, linkAt, movesAt, partWords}
 use Rattle.model.proofs.Sums.{count}
 use Rattle.model.proofs.Places.{cellAt-from, cellAt-cell}
+use Rattle.model.proofs.Split.{part-none, part-goes, part-stays}
 use Rattle.store.specs.Cells.{Sized}
 use Rattle.store.specs.Search.{Ends}
 use Rattle.store.specs.Table.{MaySplit}
@@ -51,21 +51,6 @@ pub record Parting (c f m p : ℕ) (w₀ w : List ℕ) (x k g : ℕ) : Type 0 wh
   pub enough : length (follow c (nextCard w) x) ≤ fuel
   pub same : partWords fuel m p w k g x ≡ partWords c m p w₀ 0 0 (bucketWord w₀ p)
 
--- the steps of `partWords`
-module _ (m p : ℕ) (w : List ℕ) (k g x : ℕ) where
-  part-none : (fuel : ℕ) → x ≡ 0 → partWords fuel m p w k g x ≡ set (set w (linkAt p k) 0) (linkAt (m + p) g) 0
-  unfolding partWords
-  part-none zero z = refl
-  part-none (suc fuel) z = rw z
-
-  part-goes : (fuel : ℕ) → (x ≡ 0 → ⊥) → movesAt w m p x ≡ true → partWords (suc fuel) m p w k g x ≡ partWords fuel m p (set w (linkAt (m + p) g) x) k x (cardWord w x 0)
-  unfolding partWords
-  part-goes fuel n e = rw (ne-eqb x 0 n, e)
-
-  part-stays : (fuel : ℕ) → (x ≡ 0 → ⊥) → movesAt w m p x ≡ false → partWords (suc fuel) m p w k g x ≡ partWords fuel m p (set w (linkAt p k) x) x g (cardWord w x 0)
-  unfolding partWords
-  part-stays fuel n e = rw (ne-eqb x 0 n, e)
-
 module _ {c f m p : ℕ} {w₀ : List ℕ} (pre : MaySplit w₀ c f m p) where
   pub part-start : {x : ℕ} → x ≡ bucketWord w₀ p → Parting c f m p w₀ w₀ x 0 0
   part-start e =
@@ -87,7 +72,7 @@ module _ {c f m p : ℕ} {w₀ : List ℕ} (pre : MaySplit w₀ c f m p) where
     part-long = omega (arith, r .sized .long, pre .read .sized .long)
 
     pub part-end : x ≡ 0 → set (set w (linkAt p k) 0) (linkAt (m + p) g) 0 ≡ partWords c m p w₀ 0 0 (bucketWord w₀ p)
-    part-end z = sym (part-none m p w k g x (r .fuel) z) ∙ r .same
+    part-end z = sym (ap (partWords (r .fuel) m p w k g) z ∙ part-none (r .fuel) m p w k g) ∙ r .same
 
     -- in a turn cell x is a card's, and the cells behind it are a chain that x stands in no more
     module _ (some : x ≡ 0 → ⊥) where
@@ -152,11 +137,11 @@ module _ {c f m p : ℕ} {w₀ : List ℕ} (pre : MaySplit w₀ c f m p) where
         part-go t e =
             rw (e, next)
             (linked (m + p) g (pre .room) (r .apartG) k x (omega (arith, behind k, r .apartK)) (ends-apart (r .chain) some) (r .lowK) (part-cell .1)
-            (sym (part-goes m p w k g x (left .fuel) some t)))
+            (sym (part-goes (left .fuel) m p w k g x (part-cell .0) t)))
 
         pub part-stay : movesAt w m p x ≡ false → w₁ ≡ set w (linkAt p k) x → Parting c f m p w₀ w₁ y x g
         unfolding new
         part-stay t e =
             rw (e, next)
             (linked p k (omega (arith, pre .room)) (r .apartK) x g (ends-apart (r .chain) some) (omega (arith, behind g, r .apartG)) (part-cell .1) (r .lowG)
-            (sym (part-stays m p w k g x (left .fuel) some t)))
+            (sym (part-stays (left .fuel) m p w k g x (part-cell .0) t)))

@@ -10,7 +10,7 @@ use lib.ListN.{length, getD, length-map}
 use Rattle.rules.proofs.Tests.{all-of}
 use Rattle.model.specs.Lists.{between, all, join, total}
 use Rattle.model.specs.Model.{Fault, Card, Store, cards, bucket, cellsOf, faultCellsOf}
-use Rattle.model.specs.Layout.{Cell, atsOf, headOr, chained, cardWidth, faultWidth, segmentsAt, cardsAt, faultsAt, lengthFor, first, last, follow, cardCell, faultCell, cardChains, faultChains, header, front, cardWord, faultWord, readCard, readChain, sound, decode}
+use Rattle.model.specs.Layout.{Cell, atsOf, headOr, chained, cardWidth, faultWidth, segmentsAt, cardsAt, faultsAt, lengthFor, first, last, follow, cardCell, faultCell, cardChains, faultChains, header, front, cardWord, faultWord, readCard, readChain, decode}
 use Rattle.model.specs.Meaning.{Leads, nextCard, nextFault}
 use Rattle.model.proofs.Lists.{between-is, map-append, Every, every-parts, every-join}
 use Rattle.model.proofs.Sums.{bit, bit-same, total-append, total-one}
@@ -20,7 +20,7 @@ use Rattle.model.proofs.Part.{cellIn, Held, held-follow}
 use Rattle.model.proofs.Fair.{inCell, limits-of, card-cells}
 use Rattle.model.proofs.Rep.{Rep, rep-front, size-top}
 use Rattle.model.proofs.Decode.{head-cards, head-faults, segment-at, limit-at, fault-limit-at, cards-at, read-chain}
-use Rattle.model.proofs.Sound.{sound-is}
+use Rattle.model.proofs.Split.{ats-cards}
 use Rattle.store.specs.Cells.{Sized, Read}
 use Rattle.store.specs.Search.{Ends, faultsFrom}
 
@@ -44,11 +44,6 @@ held-ends w base width n chains z e r j =
       leads = rw f (stand-leads (cellIn w base width) width z (getD chains j []) (r j));
       inside = rw f (ats-inside n (getD chains j []) (λ i h. e .inside i (omega (arith, total-one (λ c. bit (eqb i (c .at))) chains j))));
     }
-
-ats-cards : (cs : List Card) → atsOf (map cardCell cs) ≡ cellsOf cs
-unfolding cardCell
-ats-cards [] = refl
-ats-cards (c ∷ cs) = ap (λ (l : List ℕ). c .at ∷ l) (ats-cards cs)
 
 -- a card of a chain, with the cards behind it, as its cell stands in the words
 pub record Stored (w : List ℕ) (s : Store) (c : Card) (after : List Card) : Type 0 where
@@ -147,11 +142,6 @@ module _ {w : List ℕ} {s : Store} (r : Rep w s) where
       inside =
           r .fair .cells .inside (c .at)
           (omega (arith, card-cells s (c .at), total-one (inCell (c .at)) (s .buckets) b, ap (total (inCell (c .at))) e, total-append (inCell (c .at)) front (c ∷ after), bit-same (c .at) (c .at) refl))
-
--- the header of sound words
-pub sound-read : (w : List ℕ) → sound w ≡ true → Read w (getD w 1 0) (getD w 2 0) (getD w 3 0) (getD w 4 0)
-unfolding decode
-sound-read w e = rep-read (sound-is w e .0)
 
 -- the limits and the state of the store read from words are those of its header
 pub read-store : {w : List ℕ} {c f m p : ℕ} → Read w c f m p → (decode w .limit ≡ c) × (decode w .faultLimit ≡ f) × (decode w .maxp ≡ m) × (decode w .p ≡ p)

@@ -9,7 +9,6 @@ use mathlib.Core.Logic.{⊎-elim}
 use mathlib.Core.List.{List, [], _∷_, _++_, map}
 use Prim.Native.Nat.{ℕ, zero, suc, _+_, _*_, _≤_}
 use native.Mathlib.Omega.{arith}
-use borrow.Author.Tests.{eq-eqb, ne-eqb}
 use lib.Dec.{eqb}
 use lib.ListN.{length, length-append}
 use Rattle.rules.proofs.Tests.{by-cases, both, all-of, eq?}
@@ -17,6 +16,7 @@ use Rattle.model.specs.Lists.{join, total}
 use Rattle.model.specs.Layout.{follow, last}
 use Rattle.model.specs.Meaning.{Leads}
 use Rattle.model.specs.Calls.{scratchNeed}
+use Rattle.model.proofs.Chains.{follow-none, follow-step}
 use Rattle.model.proofs.Lists.{Every}
 use Rattle.model.proofs.Sums.{bit, bit-le, bit-same, bit-other, count, total-append}
 use Rattle.store.specs.Marks.{markAt, markedAt}
@@ -43,21 +43,11 @@ abbrev pub lastOr : ℕ → List ℕ → ℕ
 lastOr l [] = l
 lastOr l (c ∷ cs) = lastOr c cs
 
-last-or : (l : List ℕ) → lastOr 0 l ≡ last l
+pub last-or : (l : List ℕ) → lastOr 0 l ≡ last l
 unfolding last
 last-or [] = refl
 last-or (x ∷ []) = refl
 last-or (x ∷ y ∷ l) = last-or (y ∷ l)
-
--- a chain that begins with 0 is empty
-pub follow-none : (f : ℕ) (next : ℕ → ℕ) (i : ℕ) → i ≡ 0 → follow f next i ≡ []
-unfolding follow
-follow-none zero next i z = refl
-follow-none (suc f) next i z = rw (eq-eqb i 0 z)
-
-follow-more : (f : ℕ) (next : ℕ → ℕ) (i : ℕ) → (i ≡ 0 → ⊥) → follow (suc f) next i ≡ i ∷ follow f next (next i)
-unfolding follow
-follow-more f next i n = rw (ne-eqb i 0 n)
 
 module _ (next : ℕ → ℕ) (base limit : ℕ) (marks : base + limit ≤ 8 * scratchNeed) where
   -- a cell that is marked now is one more of the list
@@ -108,7 +98,7 @@ module _ (next : ℕ → ℕ) (base limit : ℕ) (marks : base + limit ≤ 8 * s
         walk-all (λ f bytes i n l o. (seen : List ℕ) → scratchNeed ≤ length bytes → Seen base limit bytes seen → o .ok ≡ true → Met good i n l (follow f next i) seen o) good next base limit
         (λ f bytes i n l z seen long s ok. rw (follow-none f next i z) (met-none bytes seen i n l z s))
         (λ f bytes i n l seen long s ok. absurd (false≢true ok))
-        (λ f bytes i n l o ne may rest seen long s ok. rw (follow-more f next i ne)
+        (λ f bytes i n l o ne may rest seen long s ok. rw (follow-step f next i ne)
         (met-more bytes seen i n l (follow f next (next i)) o ne may
         (rest (i ∷ seen) (omega (arith, length-marked bytes (numberOf base i))) (seen-more bytes seen i long (omega arith) (may-in good base limit bytes i may) (may-new good base limit bytes i may) s) ok)))
 
@@ -118,7 +108,7 @@ module _ (next : ℕ → ℕ) (base limit : ℕ) (marks : base + limit ≤ 8 * s
     accepts-from zero bytes i n l seen long s r a = rw (walk-end good next base limit bytes i n l zero (r .leads))
     accepts-from (suc f) bytes i n l seen long s r a =
         ⊎-elim (λ (z : i ≡ 0). ap (λ (o : Out). o .ok) (walk-end good next base limit bytes i n l (suc f) z))
-        (λ (ne : i ≡ 0 → ⊥). go ne (subst (Runs good next limit i) (follow-more f next i ne) r) (subst (λ (l : List ℕ). Apart limit l seen) (follow-more f next i ne) a)
+        (λ (ne : i ≡ 0 → ⊥). go ne (subst (Runs good next limit i) (follow-step f next i ne) r) (subst (λ (l : List ℕ). Apart limit l seen) (follow-step f next i ne) a)
         (accepts-from f (markedAt bytes (numberOf base i)) (next i) (n + 1) i (i ∷ seen))) (eq? i 0)
       where
         unmarked : (t : Bool) → bit t ≡ 0 → t ≡ false

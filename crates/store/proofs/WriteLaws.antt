@@ -1,14 +1,14 @@
 -- What a narrow writer did to a part that was lent on, said of the whole words: `card-lent` and `fault-lent` for one word of a cell,
--- `card-cell-lent` and `fault-cell-lent` for a whole cell. Words that are sized stay sized where neither limit is written (`sized-set`, `sized-sets`).
-use mathlib.Core.Path.{_≡_, refl, sym, ap, _∙_, subst}
-use mathlib.Core.Logic.{inl}
+-- `card-cell-lent` and `fault-cell-lent` for a whole cell. Words that are sized stay sized where neither limit is written (`sized-set`).
+-- The writes of a change, in a row, are the model's function on words (`place-is`, `file-is`, `remove-is`).
+use mathlib.Core.Path.{_≡_, sym, ap, _∙_}
 use mathlib.Core.Bool.{true, cond}
 use mathlib.Core.List.{List, [], _∷_, _++_}
 use Prim.Native.Nat.{ℕ, zero, suc, _+_, _-_, _*_, _≤_, _<_}
 use native.Mathlib.Omega.{arith}
 use lib.Dec.{eqb}
 use lib.ListN.{length, getD, set, take, drop, replicate, length-set}
-use lib.Seq.{sets, length-sets, getD-set-other, take-set-le, take-set-lt, drop-set-lt, drop-set-add}
+use lib.Seq.{sets, getD-set-other, take-set-le, take-set-lt, drop-set-lt, drop-set-add}
 use borrow.Author.Tests.{eq-eqb, ne-eqb}
 use borrow.Rule.Slice.PartMut.{midOf, putMid, mid-len, put-same, set-mid-at}
 use Rattle.rules.specs.Table.{top}
@@ -16,7 +16,6 @@ use Rattle.rules.proofs.Tests.{by-cases}
 use Rattle.model.specs.Layout.{segmentsAt, cardWidth, faultWidth, cardsAt, faultsAt, cellAt, packed, cardWord, faultWord}
 use Rattle.model.specs.Serial.{validSerial}
 use Rattle.model.specs.Words.{cardAt, faultAt, linkAt, newWords, placeWords, fileWords, giveWords, removeWords}
-use Rattle.model.proofs.Writes.{sets-out}
 use Rattle.store.specs.Cells.{Sized, packedAll}
 use Rattle.store.proofs.FindLaws.{valid-length, valid-packed}
 
@@ -114,18 +113,6 @@ sized-set {w} s i v h e =
       long = ap length e ∙ length-set w i v ∙ s .long;
       limit = ap (λ (l : List ℕ). getD l 1 0) e ∙ getD-set-other w i 1 v 0 (omega arith) ∙ s .limit;
       faultLimit = ap (λ (l : List ℕ). getD l 2 0) e ∙ getD-set-other w i 2 v 0 (omega arith) ∙ s .faultLimit;
-    }
-
-pub sized-sets : {w u : List ℕ} {c f : ℕ} → Sized w c f → (i : ℕ) (vs : List ℕ) → 2 < i → u ≡ sets w i vs → Sized u c f
-sized-sets {w} s i vs h e =
-    record {
-      some = s .some;
-      most = s .most;
-      someFaults = s .someFaults;
-      mostFaults = s .mostFaults;
-      long = ap length e ∙ length-sets w i vs ∙ s .long;
-      limit = ap (λ (l : List ℕ). getD l 1 0) e ∙ sets-out vs w i 1 (inl (omega arith)) ∙ s .limit;
-      faultLimit = ap (λ (l : List ℕ). getD l 2 0) e ∙ sets-out vs w i 2 (inl (omega arith)) ∙ s .faultLimit;
     }
 
 -- the next word of a cell of a chain, or the bucket's word

@@ -19,7 +19,7 @@ const MOST_FAULTS: u32 = 2048;
 pub const FORMAT: u32 = 1;
 
 // Buckets of a segment, and how many segments there are.
-const SEGMENT: u32 = 16;
+pub const SEGMENT: u32 = 16;
 
 const SEGMENT_COUNT: u32 = 16;
 
@@ -135,7 +135,11 @@ pub fn entry_for(b: u32, k: u32) -> u32
     requires { ⌜ k < 65536 ⌝ }
     ensures { λ r. ⌜ r ≡ entryFor b k ⌝ }
 {
-    if SEGMENT * k < b { 32 + SEGMENT * k } else { 0 }
+    if SEGMENT * k < b {
+        cells::SEGMENTS as u32 + SEGMENT * k
+    } else {
+        0
+    }
 }
 
 // Words 16 to 31: each segment is in use where its first bucket is one of the b.

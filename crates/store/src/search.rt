@@ -10,6 +10,7 @@ ghost use Rattle.store.specs.Cells.{Sized, Read};
 ghost use Rattle.store.specs.Search.{Ends, hasKey, searched, Finds};
 use crate::cells;
 use crate::cells::Header;
+use crate::front;
 use crate::serial;
 
 // What a search gives: the place is the card's, from 1, if held, else the chain's length; the cell is 0 if not held; prev is the cell
@@ -82,16 +83,7 @@ pub fn header_of(w: &[u32]) -> Header
     requires { ⌜ sound (now w) ≡ true ⌝ }
     ensures { λ r. ⌜ Read (now (w .entry)) (r .cards) (r .faults) (r .maxp) (r .p) ⌝ }
 {
-    let cards = cells::word(w, 1);
-    let faults = cells::word(w, 2);
-    let maxp = cells::word(w, 3);
-    let p = cells::word(w, 4);
-    Header {
-        cards,
-        faults,
-        maxp,
-        p,
-    }
+    front::header(w)
 }
 
 // Where the card of a serial stands in a sound store: its bucket by the serial's code, and the search of that bucket's chain.

@@ -15,9 +15,6 @@ use crate::cells::Header;
 use crate::front;
 use crate::writes;
 
-// Buckets of a segment.
-const SEGMENT: u32 = 16;
-
 // Whether the card in cell i goes to the new bucket maxp + p.
 fn moves(w: &[u32], c: u32, f: u32, maxp: u32, p: u32, i: u32) -> bool
     requires { ⌜ Sized (now w) c f × (1 ≤ maxp) × (maxp + p < top) × (1 ≤ i) × (i ≤ c) ⌝ }
@@ -59,8 +56,8 @@ fn open_bucket(w: &mut [u32], n: u32)
     requires { ⌜ (segmentsAt + top ≤ length (now w)) × (n < top) ⌝ }
     ensures { λ _. ⌜ now (w .exit) ≡ openWords (now (w .entry)) n ⌝ }
 {
-    if n % SEGMENT == 0 {
-        w[cells::DIRECTORY + (n / SEGMENT) as usize] = 32 + n;
+    if n % front::SEGMENT == 0 {
+        w[cells::DIRECTORY + (n / front::SEGMENT) as usize] = cells::SEGMENTS as u32 + n;
     }
 }
 
@@ -68,8 +65,8 @@ fn close_bucket(w: &mut [u32], n: u32)
     requires { ⌜ (segmentsAt + top ≤ length (now w)) × (n < top) ⌝ }
     ensures { λ _. ⌜ now (w .exit) ≡ closeWords (now (w .entry)) n ⌝ }
 {
-    if n % SEGMENT == 0 {
-        w[cells::DIRECTORY + (n / SEGMENT) as usize] = 0;
+    if n % front::SEGMENT == 0 {
+        w[cells::DIRECTORY + (n / front::SEGMENT) as usize] = 0;
     }
 }
 

@@ -8,13 +8,13 @@ ghost use lib.Dec.{eqb};
 ghost use lib.ListN.{length, set, take, replicate};
 ghost use lib.Seq.{sets};
 ghost use Rattle.rules.specs.Table.{top};
+ghost use Rattle.model.specs.Serial.{validSerial};
 ghost use Rattle.model.specs.Layout.{segmentsAt, cardWidth, faultWidth, follow, last as lastOf};
 ghost use Rattle.model.specs.Meaning.{nextFault};
-ghost use Rattle.store.specs.Cells.{Sized};
-ghost use Rattle.model.specs.Serial.{validSerial};
 ghost use Rattle.model.specs.Words.{cardAt, faultAt, linkAt, placeWords, fileWords, clearWords, giveWords, removeWords};
-ghost use Rattle.store.specs.Writes.{MayPlace, MayFile, MayRemove};
+ghost use Rattle.store.specs.Cells.{Sized};
 ghost use Rattle.store.specs.Search.{Ends};
+ghost use Rattle.store.specs.Writes.{MayPlace, MayFile, MayRemove};
 use crate::cells;
 use crate::front;
 use crate::serial;
@@ -79,7 +79,7 @@ pub fn put_word(w: &mut [u32], at: usize, v: u32)
     w[at] = v;
 }
 
-// The same of the whole words: each lends its part.
+// A bucket's word, a word of a cell and a whole cell, in the whole words: each lends its part to the narrow writer.
 pub fn put_bucket(w: &mut [u32], b: u32, v: u32)
     requires { ⌜ (segmentsAt + top ≤ length (now w)) × (b < top) ⌝ }
     ensures { λ _. ⌜ now (w .exit) ≡ set (now (w .entry)) (segmentsAt + b) v ⌝ }

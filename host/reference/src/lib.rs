@@ -6,11 +6,13 @@
 //! So no operation here follows or mends a chain of cells; it is the layout alone that knows of cells and of next words.
 
 pub mod calls;
+pub mod damages;
 pub mod job;
 pub mod layout;
 pub mod lists;
 pub mod operations;
 pub mod random;
 pub mod rules;
+pub mod script;
 pub mod serial;
 pub mod sound;

@@ -1,14 +1,24 @@
-//! `reference depot` reads standard input and writes what the program `depot` must write for it.
+//! `reference depot` reads standard input and writes what the program `depot` must write for it. `reference soundness` writes what the
+//! program `store_soundness` must write. `reference calls` reads a script and writes what the program `store_calls` must write for it.
 use std::env;
 use std::io::{self, Read, Write};
 use std::process;
 
 fn main() -> io::Result<()> {
-    if env::args().skip(1).collect::<Vec<_>>() != ["depot"] {
-        eprintln!("usage: reference depot <JOB");
-        process::exit(2);
-    }
+    let output = match env::args().skip(1).collect::<Vec<_>>().as_slice() {
+        [word] if word == "depot" => reference::job::depot(&input()?),
+        [word] if word == "soundness" => reference::damages::report().into_bytes(),
+        [word] if word == "calls" => reference::script::report(&String::from_utf8_lossy(&input()?)).into_bytes(),
+        _ => {
+            eprintln!("usage: reference depot <JOB, reference soundness, or reference calls <SCRIPT");
+            process::exit(2);
+        }
+    };
+    io::stdout().write_all(&output)
+}
+
+fn input() -> io::Result<Vec<u8>> {
     let mut input = Vec::new();
     io::stdin().read_to_end(&mut input)?;
-    io::stdout().write_all(&reference::job::depot(&input))
+    Ok(input)
 }

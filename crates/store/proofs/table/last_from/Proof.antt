@@ -5,9 +5,11 @@ use native.Mathlib.Omega.{arith}
 use lib.ListN.{length}
 use Rattle.model.specs.Layout.{last, follow}
 use Rattle.model.specs.Meaning.{nextCard}
+use Rattle.model.proofs.Chains.{follow-none}
 use Rattle.store.specs.Search.{Ends}
 use Rattle.store.specs.Table.{lastFrom}
-use Rattle.store.proofs.EndsLaws.{ends-on, ends-here, ends-less, follow-none, lastOr, last-or}
+use Rattle.store.proofs.EndsLaws.{ends-on, ends-here, ends-less}
+use Rattle.store.proofs.Walking.{lastOr, last-or}
 use Rattle.store.proofs.table.last_from.Statement.{statement}
 use Rattle.store.proofs.table.last_from.Tie as tie
 
@@ -28,13 +30,11 @@ loop-less : tie.Need-loop-less Inv-loop μ-loop
 loop-less c = rw (c .card-word .ensures) (ends-less (c .before .before .loop .inv .0) (c .before .loop-test .taken))
 
 loop-again : tie.Need-loop-again Inv-loop μ-loop
-unfolding lastOr
 loop-again c =
     let on = ends-on (c .before .before .loop .inv .0) (c .before .loop-test .taken) in
     rw (c .card-word .ensures) (on .1, ap (lastOr (c .before .before .loop .last)) (sym (on .0)) ∙ c .before .before .loop .inv .1)
 
 returns : tie.Need-returns Inv-loop μ-loop
-unfolding lastOr
 returns c = ap (lastOr (c .before .loop .last)) (sym (follow-none _ _ _ (c .loop-test .left))) ∙ c .before .loop .inv .1
 
 pub last-from-spec : {M : Type 1} → statement M

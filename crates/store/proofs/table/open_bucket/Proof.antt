@@ -14,4 +14,4 @@ unfolding openWords
 returns-2 c = rw (ne-eqb _ _ (c .if1 .left))
 
 pub open-bucket-spec : {M : Type 1} → statement M
-open-bucket-spec = tie.close (tie.spec (λ c. search needs) (λ c. search needs) (λ c. search needs) (λ c. search needs) (λ c. search needs) (λ c. search needs) returns returns-2)
+open-bucket-spec = tie.close (tie.spec (λ c. search needs) (λ c. search needs) (λ c. search needs) (λ c. search needs) (λ c. search needs) (λ c. search needs) (λ c. search needs) returns returns-2)

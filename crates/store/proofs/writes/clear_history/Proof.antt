@@ -5,7 +5,7 @@ use native.Mathlib.Omega.{arith}
 use lib.ListN.{length}
 use Rattle.model.specs.Layout.{follow}
 use Rattle.model.specs.Meaning.{nextFault}
-use Rattle.store.proofs.EndLaws.{ends-open}
+use Rattle.store.proofs.EndsLaws.{ends-here}
 use Rattle.store.proofs.ClearLaws.{Clearing, clear-start, clear-less, clear-next, clear-end}
 use Rattle.store.proofs.writes.clear_history.Statement.{statement}
 use Rattle.store.proofs.writes.clear_history.Tie as tie
@@ -18,7 +18,7 @@ abbrev μ-loop : tie.MeasureT-loop
 
 -- the cell of this turn is a fault cell
 cell : (i : tie.In-loop Inv-loop μ-loop) → (1 ≤ i .before .loop .i) × (i .before .loop .i ≤ i .before .before .before .args .f)
-cell i = let o = ends-open (i .before .loop .inv .ends) (i .loop-test .taken) in (o .from, o .to)
+cell i = ends-here (i .before .loop .inv .ends) (i .loop-test .taken)
 
 fault-word-requires : tie.Need-fault-word-requires Inv-loop μ-loop
 fault-word-requires c κs = let h = cell (c .before) in (c .before .before .loop .inv .sized, h .0, h .1, omega arith)

@@ -2,7 +2,7 @@
 -- fault cell.
 use native.Mathlib.Omega.{arith}
 use borrow.Author.Needs.{needs}
-use Rattle.store.proofs.EndLaws.{ends-last}
+use Rattle.store.proofs.EndsLaws.{ends-last}
 use Rattle.store.proofs.ClearLaws.{give-none, give-is}
 use Rattle.store.proofs.writes.give_back.Statement.{statement}
 use Rattle.store.proofs.writes.give_back.Tie as tie

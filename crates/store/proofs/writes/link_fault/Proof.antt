@@ -1,5 +1,4 @@
 -- `writes::link_fault` meets its contract: the card's first-fault word where the last fault is 0, else the next word of the last fault.
-use mathlib.Core.Path.{_∙_}
 use borrow.Author.Needs.{needs}
 use borrow.Author.Tests.{eq-eqb, ne-eqb}
 use Rattle.store.proofs.writes.link_fault.Statement.{statement}

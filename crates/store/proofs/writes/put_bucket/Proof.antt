@@ -1,5 +1,4 @@
 -- `writes::put_bucket` meets its contract: bucket b is word b of the segments, which begin at their offset.
-use mathlib.Core.Path.{_∙_, ap}
 use native.Mathlib.Omega.{arith}
 use borrow.Author.Needs.{needs}
 use Rattle.store.proofs.WriteLaws.{lent-set}

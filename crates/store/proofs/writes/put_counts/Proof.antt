@@ -1,10 +1,5 @@
 -- `writes::put_counts` meets its contract: three writes, one after the other.
-use mathlib.Core.Path.{ap, _∙_}
-use mathlib.Core.List.{List}
-use Prim.Native.Nat.{ℕ}
 use borrow.Author.Needs.{needs}
-use lib.ListN.{set}
-use Rattle.model.specs.Words.{cardAt}
 use Rattle.store.proofs.writes.put_counts.Statement.{statement}
 use Rattle.store.proofs.writes.put_counts.Tie as tie
 

@@ -1,6 +1,5 @@
 -- `writes::remove_at` meets its contract: its writes are those of `removeWords`, in that order.
-use mathlib.Core.Path.{ap, _∙_}
-use Prim.Native.Nat.{ℕ}
+use mathlib.Core.Path.{_∙_}
 use native.Mathlib.Omega.{arith}
 use borrow.Author.Needs.{needs}
 use Rattle.store.proofs.WriteLaws.{remove-is}
