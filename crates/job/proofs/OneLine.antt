@@ -2,13 +2,12 @@
 -- sound and are read back as that store (`line-sound`, `line-back`). A turn is a turn of the model's run: one that fits goes on with the
 -- lines left (`turn-on`), one that does not stops it (`turn-stop`).
 use Prim.Native.Nat.{ℕ, suc, _+_, _≤_, _<_}
-use mathlib.Core.Path.{_≡_, refl, sym, ap, _∙_}
+use mathlib.Core.Path.{_≡_, refl, sym}
 use mathlib.Core.Bool.{true, false, false≢true, cond}
-use mathlib.Core.List.{List, _∷_, _++_}
-use native.Mathlib.Omega.{arith}
+use mathlib.Core.List.{List, _∷_}
 use lib.Dec.{ltb, eqb}
-use lib.ListN.{length, take, drop, length-append}
-use lib.Seq.{sets, length-sets, sets-eq, length-take-le, take-at, drop-at, drop-drop}
+use lib.ListN.{length, take, drop}
+use lib.Seq.{sets, length-sets, length-take-le}
 use borrow.Author.Tests.{ltb-true, ltb-false, lt-ltb, le-ltb}
 use Rattle.rules.proofs.Tests.{by-cases}
 use Rattle.model.specs.Model.{Store}
@@ -23,6 +22,7 @@ use Rattle.model.proofs.Outcomes.{read-back}
 use Rattle.job.specs.Told.{Told, serialIn, dayIn, codeIn}
 use Rattle.job.specs.Turns.{asked, listedBy, turnOf}
 use Rattle.job.specs.declared.fields.Parsed.{Parsed}
+use Rattle.job.proofs.Putting.{put-front, put-rest}
 
 -- the step of a line is what is told of it, asked
 pub asked-is : (s : Store) (l : Line) (p : Parsed) → Told l p → asked s p ≡ stepOf s l
@@ -66,21 +66,6 @@ module _ (w : List ℕ) (ok : sound w ≡ true) (l : Line) where
 abbrev pub runAt : ℕ → List ℕ → List ℕ → ℕ → Tally → Run
 runAt lines w out at t = record { number = 0; lines = lines; text = take at out; store = decode w; tally = t }
 
--- the text with an answer behind it
-written : (out answer : List ℕ) (at : ℕ) → at + length answer ≤ length out → take (at + length answer) (sets out at answer) ≡ take at out ++ answer
-written out answer at h =
-    let e : length (take at out ++ answer) ≡ at + length answer = length-append (take at out) answer ∙ ap (λ (n : ℕ). n + length answer) (length-take-le at out (omega arith)) in
-    rw (sets-eq answer out at h) (take-at (take at out ++ answer) _ (at + length answer) e)
-
--- and what stands behind it
-behind : (out out₀ answer : List ℕ) (at : ℕ) → at + length answer ≤ length out → drop at out ≡ drop at out₀
-    → drop (at + length answer) (sets out at answer) ≡ drop (at + length answer) out₀
-behind out out₀ answer at h e =
-    let n = at + length answer in
-    let l : length (take at out ++ answer) ≡ n = length-append (take at out) answer ∙ ap (λ (k : ℕ). k + length answer) (length-take-le at out (omega arith)) in
-    rw (sets-eq answer out at h) (drop-at (take at out ++ answer) (drop n out) n l)
-    ∙ sym (drop-drop (length answer) at out) ∙ ap (drop (length answer)) e ∙ drop-drop (length answer) at out₀
-
 -- a turn whose answer fits, and one whose answer does not
 module _ (w x out : List ℕ) (at : ℕ) (t : Tally) where
   abbrev pub lineStep : Step
@@ -118,7 +103,7 @@ module _ (w x out : List ℕ) (at : ℕ) (t : Tally) where
     turn-inside = rw (turn-fits f .1) (turn-fits f .0)
 
     pub turn-rest : (out₀ : List ℕ) → drop at out ≡ drop at out₀ → drop (turnOf w x out at t .end) (turnOf w x out at t .out) ≡ drop (turnOf w x out at t .end) out₀
-    turn-rest out₀ e = rw (turn-fits f .1) (behind out out₀ lineAnswer at (turn-fits f .0) e)
+    turn-rest out₀ e = rw (turn-fits f .1) (put-rest out out₀ lineAnswer at (turn-fits f .0) e)
 
   -- so the model's run, once its text stands at the front of the output, goes on or stops as the turn does
   module _ (lines : ℕ) (xs : List (List ℕ)) (h : at ≤ length out) where
@@ -131,7 +116,7 @@ module _ (w x out : List ℕ) (at : ℕ) (t : Tally) where
     unfolding runLines
     turn-on ok f =
         let g = turn-fits f in
-        rw (g .1, front, le-ltb (length out) (at + length lineAnswer) (g .0), written out lineAnswer at (g .0), line-back w ok (lineOf x))
+        rw (g .1, front, le-ltb (length out) (at + length lineAnswer) (g .0), put-front out lineAnswer at (g .0), line-back w ok (lineOf x))
 
     pub turn-stop : turnOf w x out at t .fits ≡ false
         → runLines (x ∷ xs) (length out) (runAt lines w out at t) ≡ record { number = 10; lines = lines; text = take at out; store = decode w; tally = t }

@@ -1,12 +1,13 @@
--- Texts written one behind another: `puts-then` joins two of them, and `Left` is what a loop keeps of the text that it still has to write.
+-- Texts written one behind another: `puts-then` joins two of them, `Left` is what a loop keeps of the text that it still has to write, and
+-- `put-front` and `put-rest` say what an output has then before and behind its end.
 -- Assumes nothing.
 use Prim.Native.Nat.{ℕ, suc, _+_, _≤_}
 use mathlib.Core.Path.{_≡_, refl, sym, ap, _∙_}
 use mathlib.Core.List.{List, [], _∷_, _++_}
 use native.Mathlib.Nat.{add-zero}
 use native.Mathlib.Omega.{arith}
-use lib.ListN.{length, set, length-append}
-use lib.Seq.{sets, length-sets, set-comm}
+use lib.ListN.{length, set, take, drop, length-append}
+use lib.Seq.{sets, length-sets, sets-eq, set-comm, length-take-le, take-at, drop-at, drop-drop}
 use Rattle.job.specs.Text.{Puts}
 
 -- a run of stores, taken apart
@@ -62,3 +63,18 @@ left-room text l h = omega arith
 
 pub left-none : {out whole now : List ℕ} {at end : ℕ} → Left out at whole now end [] → Puts out at whole end now
 left-none {out} {whole} {now} {at} {end} l = record { out-is = l .same; end-is = omega arith }
+
+-- a text at the front of the output with an answer behind it
+pub put-front : (out answer : List ℕ) (at : ℕ) → at + length answer ≤ length out → take (at + length answer) (sets out at answer) ≡ take at out ++ answer
+put-front out answer at h =
+    let e : length (take at out ++ answer) ≡ at + length answer = length-append (take at out) answer ∙ ap (λ (n : ℕ). n + length answer) (length-take-le at out (omega arith)) in
+    rw (sets-eq answer out at h) (take-at (take at out ++ answer) _ (at + length answer) e)
+
+-- and what stands behind both
+pub put-rest : (out out₀ answer : List ℕ) (at : ℕ) → at + length answer ≤ length out → drop at out ≡ drop at out₀
+    → drop (at + length answer) (sets out at answer) ≡ drop (at + length answer) out₀
+put-rest out out₀ answer at h e =
+    let n = at + length answer in
+    let l : length (take at out ++ answer) ≡ n = length-append (take at out) answer ∙ ap (λ (k : ℕ). k + length answer) (length-take-le at out (omega arith)) in
+    rw (sets-eq answer out at h) (drop-at (take at out ++ answer) (drop n out) n l)
+    ∙ sym (drop-drop (length answer) at out) ∙ ap (drop (length answer)) e ∙ drop-drop (length answer) at out₀

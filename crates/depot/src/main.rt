@@ -1,0 +1,13 @@
+// The program: reads one job from standard input and writes its answers. What it writes is `reader::answered` of what it read.
+use libc::STDIN_FILENO;
+use libc::STDOUT_FILENO;
+
+// One byte past the longest job tells a full one from one that is too long.
+fn main() {
+    let mut input = [0u8; 16385];
+    let n = io::read_full(STDIN_FILENO, &mut input);
+    let text = reader::answered(&input[..n]);
+    let bytes = text.bytes;
+    let len = text.len;
+    io::write_all(STDOUT_FILENO, &bytes[..len]);
+}

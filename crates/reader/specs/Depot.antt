@@ -1,0 +1,47 @@
+-- What the program `depot` writes for what it reads: the answers of one job on a fresh store, and a closing line where the job says so.
+use mathlib.Core.Path.{_≡_}
+use mathlib.Core.Bool.{cond}
+use mathlib.Core.List.{List, [], _∷_, _++_}
+use Prim.Native.Nat.{ℕ, _≤_}
+use lib.Dec.{eqb}
+use lib.ListN.{length, take, replicate}
+use Rattle.model.specs.Model.{fresh}
+use Rattle.model.specs.Layout.{encode}
+use Rattle.model.specs.Calls.{scratchNeed}
+use Rattle.model.specs.Job.{decimal, Tally, Finished, job}
+use Rattle.job.specs.declared.Done.{Done}
+
+-- C = 256 and F = 512, and 16,384 bytes of output
+unfoldable pub opened : List ℕ
+opened = encode (fresh 256 512)
+
+unfoldable pub outputSize : ℕ
+outputSize = 16384
+
+unfoldable pub blank : ℕ → List ℕ
+blank n = replicate n 0
+
+unfoldable pub nothing : Tally
+nothing = record { entries = 0; withdrawals = 0; filings = 0; splits = 0; contractions = 0; comparisons = 0 }
+
+-- the number, then ` 0 0 0` and LF; nothing where all lines were answered
+unfoldable pub closing : ℕ → List ℕ
+closing n = cond (eqb n 0) [] (decimal n ++ (32 ∷ 48 ∷ 32 ∷ 48 ∷ 32 ∷ 48 ∷ 10 ∷ []))
+
+-- the bytes written by a job, and the closing line behind them
+unfoldable pub wholeText : Finished → List ℕ
+wholeText f = take (f .bytes) (f .out) ++ closing (f .number)
+
+unfoldable pub depotText : List ℕ → List ℕ
+depotText input = wholeText (job opened (blank scratchNeed) input (blank outputSize) nothing)
+
+-- how a job ended, and the output that it left
+pub record Ended (f : Finished) (done : Done) (out : List ℕ) : Type 0 where
+  pub number-is : done .number ≡ f .number
+  pub bytes-are : done .bytes ≡ f .bytes
+  pub out-is : out ≡ f .out
+
+-- the first r bytes of the output are a text
+pub record Writes (text : List ℕ) (r : ℕ) (out : List ℕ) : Type 0 where
+  pub text-is : take r out ≡ text
+  pub within : r ≤ length out

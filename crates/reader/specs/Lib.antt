@@ -1,0 +1,2 @@
+-- What the program `depot` writes.
+pub mod Depot

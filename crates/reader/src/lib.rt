@@ -1,0 +1,93 @@
+// The bench reader's one job: a fresh store, a text, and all that is written for it.
+ghost use mathlib.Core.Path.{_≡_};
+ghost use Prim.Native.Nat.{_+_, _≤_};
+ghost use lib.ListN.{length};
+ghost use Rattle.model.specs.Calls.{scratchNeed};
+ghost use Rattle.model.specs.Job.{job};
+ghost use Rattle.job.specs.Text.{Puts};
+ghost use Rattle.job.specs.Runs.{Did};
+ghost use Rattle.reader.specs.Depot.{opened, blank, nothing, closing, depotText, Ended, Writes};
+use job::Done;
+use job::Ran;
+use job::Tally;
+use job::text;
+
+// The limits of the store.
+const CARDS: u32 = 256;
+
+const FAULTS: u32 = 512;
+
+const LF: u8 = 10;
+
+// A fresh store: 288 + 9 C + 3 F words.
+fn fresh() -> [u32; 4128]
+    ensures { λ r. ⌜ r ≡ opened ⌝ }
+{
+    let mut words = [0u32; 4128];
+    store::open(&mut words, CARDS, FAULTS);
+    words
+}
+
+// The tally by value, lent to the job and handed back.
+fn lent_run(words: &mut [u32], scratch: &mut [u8], text: &[u8], out: &mut [u8], tally: Tally) -> Ran
+    ensures { λ r. ⌜ Did (now (words .entry)) (now (scratch .entry)) (now (text .entry)) (now (out .entry)) tally (r .done) (r .tally) (now (words .exit)) (now (scratch .exit)) (now (out .exit)) ⌝ }
+{
+    let mut lent = tally;
+    let done = job::run(words, scratch, text, out, &mut lent);
+    Ran { done, tally: lent }
+}
+
+// One job on a fresh store: how it ended, and its answers at the front of the output.
+fn fresh_job(input: &[u8], out: &mut [u8]) -> Done
+    ensures { λ r. ⌜ Ended (job opened (blank scratchNeed) (now (input .entry)) (now (out .entry)) nothing) r (now (out .exit)) ⌝ }
+{
+    let mut words = fresh();
+    let mut scratch = [0u8; 384];
+    let none = Tally {
+        entries: 0,
+        withdrawals: 0,
+        filings: 0,
+        splits: 0,
+        contractions: 0,
+        comparisons: 0,
+    };
+    let r = lent_run(&mut words, &mut scratch, input, out, none);
+    let done = r.done;
+    done
+}
+
+// The closing line of a job that stops, behind what is written.
+fn close(out: &mut [u8], at: usize, number: u32) -> usize
+    requires { ⌜ at + length (closing number) ≤ length (now out) ⌝ }
+    ensures { λ r. ⌜ Puts (now (out .entry)) at (closing number) r (now (out .exit)) ⌝ }
+{
+    if number == 0 {
+        return at;
+    }
+    let end = text::put_numbers(out, at, number, 0, 0, 0);
+    text::put_byte(out, end, LF)
+}
+
+// The job in the first 16,384 bytes of the output, and its closing line, which takes nine more.
+fn whole(input: &[u8], out: &mut [u8]) -> usize
+    requires { ⌜ length (now out) ≡ 16393 ⌝ }
+    ensures { λ r. ⌜ Writes (depotText (now (input .entry))) r (now (out .exit)) ⌝ }
+{
+    let done = fresh_job(input, &mut out[..16384]);
+    close(out, done.bytes as usize, done.number)
+}
+
+// A text of at most 16,393 bytes.
+pub struct Text {
+    pub bytes: [u8; 16393],
+    pub len: usize,
+}
+
+// All that `depot` writes for an input.
+pub fn answered(input: &[u8]) -> Text
+    ensures { λ r. ⌜ Writes (depotText (now (input .entry))) (r .len) (r .bytes) ⌝ }
+{
+    let mut out = [0u8; 16393];
+    let len = whole(input, &mut out);
+    Text { bytes: out, len }
+}
