@@ -3,8 +3,14 @@ pub mod Cursor
 pub mod Numbers
 pub mod Padded
 pub mod Forms
-pub mod Steps
 pub mod Decimals
 pub mod Putting
 pub mod Answers
 pub mod Counting
+pub mod OneLine
+pub mod Going
+pub mod Asking
+pub mod Turning
+pub mod JobCases
+pub mod OneOutcome
+pub mod ProgramDemands

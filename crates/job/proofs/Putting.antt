@@ -5,8 +5,8 @@ use mathlib.Core.Path.{_≡_, refl, sym, ap, _∙_}
 use mathlib.Core.List.{List, [], _∷_, _++_}
 use native.Mathlib.Nat.{add-zero}
 use native.Mathlib.Omega.{arith}
-use lib.ListN.{length, set, drop, length-append, length-drop}
-use lib.Seq.{sets, length-sets, sets-eq, set-comm, take-append-seam, drop-append-add, drop-drop}
+use lib.ListN.{length, set, length-append}
+use lib.Seq.{sets, length-sets, set-comm}
 use Rattle.job.specs.Text.{Puts}
 
 -- a run of stores, taken apart
@@ -62,13 +62,3 @@ left-room text l h = omega arith
 
 pub left-none : {out whole now : List ℕ} {at end : ℕ} → Left out at whole now end [] → Puts out at whole end now
 left-none {out} {whole} {now} {at} {end} l = record { out-is = l .same; end-is = omega arith }
-
--- the job's output: the text so far and then what was there; an answer behind it
-pub put-behind : (out text answer : List ℕ) → length text + length answer ≤ length out
-    → sets (text ++ drop (length text) out) (length text) answer ≡ (text ++ answer) ++ drop (length (text ++ answer)) out
-put-behind out text answer h =
-    let rest = drop (length text) out in
-    let n = length answer in
-    let fits : length text + n ≤ length (text ++ rest) = omega (arith, length-append text rest, length-drop (length text) out) in
-    sets-eq answer (text ++ rest) (length text) fits
-    ∙ rw (take-append-seam text rest, drop-append-add text rest n, drop-drop n (length text) out, length-append text answer)

@@ -40,3 +40,8 @@ numbersOf number comparisons scanned faults = decimal number ++ (marked 32 compa
 -- an answer line: the four numbers, the pairs listed, LF
 unfoldable pub answerOf : ℕ → ℕ → ℕ → ℕ → ℕ → List ℕ → List ℕ
 answerOf number comparisons scanned faults count room = numbersOf number comparisons scanned faults ++ (pairText count room ++ (10 ∷ []))
+
+-- how long an answer line with its LF is
+pub record AnswerLong (answer : List ℕ) (count r : ℕ) : Type 0 where
+  pub is : r ≡ length answer
+  pub most : r ≤ 44 + 22 * count

@@ -1,7 +1,128 @@
 // The job: lines of text run against a store, their answers, and the tally.
+ghost use mathlib.Core.Path.{_≡_};
+ghost use mathlib.Core.Bool.{true};
+ghost use Prim.Native.Nat.{_*_, _≤_};
+ghost use lib.ListN.{length};
+ghost use Rattle.model.specs.Layout.{mostFaults, sound};
+ghost use Rattle.model.specs.Job.{mostText};
+ghost use Rattle.job.specs.Runs.{linesOn, Ends, turnedBack, Did};
+ghost use Rattle.job.specs.Counts.{tallyOf};
+
 pub mod fields; // fields.rt: a line taken apart into its fields
 pub mod lines; // lines.rt: where a line or a field ends
 pub mod tally; // tally.rt: what a job counts
 pub mod text; // text.rt: numbers and answers as text
+pub mod turn; // turn.rt: one line, from its bytes to its answer
 
 pub use tally::Tally;
+
+// How a job ended: its number, 0 if all lines were answered, the lines done and the bytes written.
+pub struct Done {
+    pub number: u32,
+    pub lines: u32,
+    pub bytes: u32,
+}
+
+// The same with the tally after the job.
+pub struct Ran {
+    pub done: Done,
+    pub tally: Tally,
+}
+
+// The longest job and the scratch that it takes, in bytes.
+const LONGEST: usize = 16384;
+
+const SCRATCH: usize = 384;
+
+// The lines of a text on a store known to be sound, one turn a line, until one does not fit.
+fn each_line(words: &mut [u32], room: &mut [u32], text: &[u8], out: &mut [u8], tally: Tally) -> Ran
+    requires { ⌜ (sound (now words) ≡ true) × (2 * mostFaults ≤ length (now room)) × (length (now text) ≤ mostText) ⌝ }
+    ensures { λ r. ⌜ Ends (linesOn (now (words .entry)) (now (text .entry)) (now (out .entry)) (tallyOf tally)) (now (out .entry)) (r .done) (r .tally) (now (words .exit)) (now (out .exit)) ⌝ }
+{
+    let mut sum = tally;
+    let mut lines: u32 = 0;
+    let mut bytes: usize = 0;
+    let mut at: usize = 0;
+    while at < text.len() {
+        let end = lines::line_end(text, at);
+        let t = turn::turn(words, room, &text[at..end], out, bytes, sum);
+        if !t.fits {
+            return Ran {
+                done: Done {
+                    number: 10,
+                    lines,
+                    bytes: bytes as u32,
+                },
+                tally: sum,
+            };
+        }
+        let after = t.tally;
+        sum = after;
+        bytes = t.end;
+        lines += 1;
+        at = end + 1;
+    }
+    Ran {
+        done: Done {
+            number: 0,
+            lines,
+            bytes: bytes as u32,
+        },
+        tally: sum,
+    }
+}
+
+// The lines, with room for the pairs of one answer.
+fn with_room(words: &mut [u32], text: &[u8], out: &mut [u8], tally: Tally) -> Ran
+    requires { ⌜ (sound (now words) ≡ true) × (length (now text) ≤ mostText) ⌝ }
+    ensures { λ r. ⌜ Ends (linesOn (now (words .entry)) (now (text .entry)) (now (out .entry)) (tallyOf tally)) (now (out .entry)) (r .done) (r .tally) (now (words .exit)) (now (out .exit)) ⌝ }
+{
+    let mut room = [0u32; 4096];
+    each_line(words, &mut room, text, out, tally)
+}
+
+// A job that is turned away: no line is done, no byte written, and the tally stays.
+fn refused(number: u32, tally: Tally) -> Ran
+    ensures { λ r. ⌜ r ≡ turnedBack number tally ⌝ }
+{
+    Ran {
+        done: Done {
+            number,
+            lines: 0,
+            bytes: 0,
+        },
+        tally,
+    }
+}
+
+// The job, with the tally by value: 11 for the scratch, 13 for the text, 3 for the store, else its lines.
+pub fn work(words: &mut [u32], scratch: &mut [u8], text: &[u8], out: &mut [u8], tally: Tally) -> Ran
+    ensures { λ r. ⌜ Did (now (words .entry)) (now (scratch .entry)) (now (text .entry)) (now (out .entry)) tally (r .done) (r .tally) (now (words .exit)) (now (scratch .exit)) (now (out .exit)) ⌝ }
+{
+    if scratch.len() < SCRATCH {
+        return refused(11, tally);
+    }
+    if LONGEST < text.len() {
+        store::clear(scratch);
+        return refused(13, tally);
+    }
+    if !store::check(words, scratch) {
+        return refused(3, tally);
+    }
+    with_room(words, text, out, tally)
+}
+
+// The job, with the tally lent by the caller: the one thin function over `work`.
+pub fn run(
+    words: &mut [u32],
+    scratch: &mut [u8],
+    text: &[u8],
+    out: &mut [u8],
+    tally: &mut Tally,
+) -> Done
+    ensures { λ r. ⌜ Did (now (words .entry)) (now (scratch .entry)) (now (text .entry)) (now (out .entry)) (now (tally .entry)) r (now (tally .exit)) (now (words .exit)) (now (scratch .exit)) (now (out .exit)) ⌝ }
+{
+    let r = work(words, scratch, text, out, *tally);
+    *tally = r.tally;
+    r.done
+}

@@ -4,7 +4,7 @@ ghost use mathlib.Core.List.{[], _∷_};
 ghost use Prim.Native.Nat.{_+_, _*_, _≤_, _<_};
 ghost use lib.ListN.{length, getD};
 ghost use Rattle.model.specs.Job.{decimal, pairText};
-ghost use Rattle.job.specs.Text.{Puts, Digits, PairLong, PairsLong, marked, pairOf, numbersOf, answerOf};
+ghost use Rattle.job.specs.Text.{Puts, Digits, PairLong, PairsLong, AnswerLong, marked, pairOf, numbersOf, answerOf};
 
 const LF: u8 = 10;
 
@@ -158,7 +158,7 @@ pub fn answer_len(
     room: &[u32],
 ) -> usize
     requires { ⌜ 2 * count ≤ length (now room) ⌝ }
-    ensures { λ r. ⌜ r ≡ length (answerOf number comparisons scanned faults count (now (room .entry))) ⌝ }
+    ensures { λ r. ⌜ AnswerLong (answerOf number comparisons scanned faults count (now (room .entry))) count r ⌝ }
 {
     let a = decimal_len(number);
     let b = decimal_len(comparisons);

@@ -33,6 +33,7 @@ pub mod Demand3
 pub mod Demand2
 pub mod Outcomes
 pub mod Demands
+pub mod Deeds
 -- What each change writes
 pub mod Whole
 pub mod Segments

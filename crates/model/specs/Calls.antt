@@ -29,7 +29,7 @@ gives n k scan f = record { number = n; comparisons = k; scanned = scan; faults 
 abbrev pub refused : ℕ → Answer
 refused n = gives n 0 0 0
 
--- one bit a cell: 1,024 card cells or 2,048 fault cells and one more bit, in 384 bytes
+-- one bit a cell: 1,024 card cells and 2,048 fault cells, in 384 bytes
 unfoldable pub scratchNeed : ℕ
 scratchNeed = 384
 

@@ -10,3 +10,4 @@ pub mod Calls
 pub mod Plain
 pub mod Runs
 pub mod Job
+pub mod Deeds

@@ -20,7 +20,7 @@ callsOf = map (λ m. m .call)
 
 -- one call
 
-left-words : (w : List ℕ) (c : Call) (g : Given) → Meets w c g → g .words ≡ wordsAfter w c
+pub left-words : (w : List ℕ) (c : Call) (g : Given) → Meets w c g → g .words ≡ wordsAfter w c
 left-words w (opening c f) g e = e .0 .words-are
 left-words w (acting scratch act) g e = e .words-are
 
@@ -52,7 +52,7 @@ same-tells w (m ∷ ms) a =
     rw (told-is w (m .call) (m .gives) (a .0), ← e, same-tells (m .gives .words) ms (a .1))
 
 -- the words of an accepted Open
-opened-words : (w₀ w : List ℕ) (c f : ℕ) → Opens (openCall w₀ c f) 0 w → (openCall w₀ c f .number ≡ 0) × (w ≡ openCall w₀ c f .words)
+pub opened-words : (w₀ w : List ℕ) (c f : ℕ) → Opens (openCall w₀ c f) 0 w → (openCall w₀ c f .number ≡ 0) × (w ≡ openCall w₀ c f .words)
 opened-words w₀ w c f o = (sym (o .number-is), o .words-are)
 
 pub program-demand3 : (w₀ w : List ℕ) (c f : ℕ) → Opens (openCall w₀ c f) 0 w → (ms : List Made) → AllMeet w ms → Demand3 (endWords w ms) (seenOf ms)

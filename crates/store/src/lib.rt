@@ -23,6 +23,8 @@ mod walks;
 pub mod withdraws;
 mod writes;
 
+pub use marks::clear;
+
 // What each of the four calls gives.
 pub struct Answer {
     pub number: u32,

@@ -5,7 +5,7 @@ ghost use mathlib.Core.Bool.{true};
 ghost use Prim.Native.Nat.{_+_, _-_, _<_};
 ghost use lib.ListN.{length};
 ghost use Rattle.model.specs.Serial.{validSerial};
-ghost use Rattle.model.specs.Model.{bucket};
+ghost use Rattle.model.specs.Model.{size, bucket};
 ghost use Rattle.model.specs.Layout.{follow, decode, sound};
 ghost use Rattle.model.specs.Meaning.{nextCard};
 ghost use Rattle.model.specs.Calls.{enterStep, fileStep, showStep, withdrawStep};
@@ -71,6 +71,15 @@ pub fn answer_of(t: Plan) -> Answer
         scanned: t.scanned,
         faults: t.faults,
     }
+}
+
+// How many buckets the store has.
+pub fn buckets(w: &[u32]) -> u32
+    requires { ⌜ sound (now w) ≡ true ⌝ }
+    ensures { λ r. ⌜ r ≡ size (decode (now (w .entry))) ⌝ }
+{
+    let h = search::header_of(w);
+    h.maxp + h.p
 }
 
 // How many cards the chain from cell `first` on has.

@@ -9,7 +9,7 @@ use Rattle.job.proofs.text.answer_len.Tie as tie
 returns : tie.Need-returns
 returns c =
     let t = c .before .before .before .before .before .before .args in
-    omega (arith, answer-long (t .number) (t .comparisons) (t .scanned) (t .faults) (t .count) (now (t .room)))
+    record { is = omega (arith, answer-long (t .number) (t .comparisons) (t .scanned) (t .faults) (t .count) (now (t .room))); most = omega arith }
 
 pub answer-len-spec : {M : Type 1} → statement M
 answer-len-spec =

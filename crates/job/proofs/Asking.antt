@@ -1,0 +1,185 @@
+-- What is told of a line, asked of a good store: the step by its kind (`asked-..`), and the pairs that its answer lists. For a done show or withdraw
+-- they are those of the card that its plan found (`lists-pairs`); any other line lists none (`lists-refused`, `lists-none`). What is refused
+-- or asks for no change leaves the words (`made-refused`, `made-none`).
+use Prim.Native.Nat.{ℕ, _*_, _≤_}
+use mathlib.Core.Path.{_≡_, refl, sym, ap, subst, _∙_}
+use mathlib.Core.Bool.{true, cond}
+use mathlib.Core.List.{List, []}
+use mathlib.Core.Logic.{_⊎_, inl, inr, ⊎-elim}
+use native.Mathlib.Omega.{arith}
+use lib.Dec.{eqb}
+use lib.ListN.{length, take, length-replicate}
+use borrow.Author.Tests.{eqb-true, ne-eqb}
+use Rattle.rules.proofs.Tests.{by-cases}
+use Rattle.model.specs.Serial.{validSerial}
+use Rattle.model.specs.Model.{Store, historyIn}
+use Rattle.model.specs.Layout.{mostFaults, encode, decode, sound}
+use Rattle.model.specs.Calls.{Step, refused, stays, written, enterStep, fileStep, showStep, withdrawStep}
+use Rattle.model.specs.Job.{enough, pairText}
+use Rattle.model.proofs.Fair.{Good}
+use Rattle.model.proofs.Look.{look}
+use Rattle.model.proofs.Cases.{enter-cases, file-cases, show-cases, withdraw-cases}
+use Rattle.model.proofs.Sound.{sound-good}
+use Rattle.store.specs.Plans.{Plans, fileWith, Ready, Follows, Holds, Paired}
+use Rattle.store.specs.declared.plans.Plan.{Plan}
+use Rattle.job.specs.Turns.{asked, listedBy, Lists}
+use Rattle.job.specs.declared.fields.Parsed.{Parsed}
+use Rattle.job.proofs.Answers.{pairs-only}
+
+-- the step by the kind
+module _ (s : Store) (p : Parsed) where
+  pub asked-enter : p .kind ≡ 1 → asked s p ≡ enterStep s (p .serial) (p .len)
+  unfolding asked
+  asked-enter e = rw e
+
+  pub asked-withdraw : p .kind ≡ 2 → asked s p ≡ withdrawStep s (p .serial) (p .len) enough
+  unfolding asked
+  asked-withdraw e = rw e
+
+  pub asked-file : p .kind ≡ 3 → asked s p ≡ fileStep s (p .serial) (p .len) (p .day) (p .code)
+  unfolding asked
+  asked-file e = rw e
+
+  pub asked-show : p .kind ≡ 4 → asked s p ≡ showStep s (p .serial) (p .len) enough
+  unfolding asked
+  asked-show e = rw e
+
+  pub asked-bad : (p .kind ≡ 1 → ⊥) → (p .kind ≡ 2 → ⊥) → (p .kind ≡ 3 → ⊥) → (p .kind ≡ 4 → ⊥) → asked s p ≡ stays (refused 12) s []
+  unfolding asked
+  asked-bad a b c d = rw (ne-eqb (p .kind) 1 a, ne-eqb (p .kind) 2 b, ne-eqb (p .kind) 3 c, ne-eqb (p .kind) 4 d)
+
+-- the room that the model gives a line
+pub enough-long : length enough ≡ 2 * mostFaults
+unfolding enough
+enough-long = length-replicate {A = ℕ} (2 * mostFaults) 0
+
+-- lines that list no pair
+
+none : (n : ℕ) → _≡_ {A = ℕ} 0 (cond (eqb n 0) 0 0)
+none n = by-cases (eqb n 0) (λ e. rw e) (λ e. rw e)
+
+module _ (kind : ℕ) (r : Step) (room : List ℕ) where
+  pub lists-refused : (r .answer .number ≡ 0 → ⊥) → Lists kind r 0 room
+  unfolding listedBy pairText
+  lists-refused n = record { count-is = rw (ne-eqb (r .answer .number) 0 n); few = omega arith; text-is = refl }
+
+  pub lists-none : (kind ≡ 2 → ⊥) → (kind ≡ 4 → ⊥) → Lists kind r 0 room
+  unfolding listedBy pairText
+  lists-none m n = record { count-is = rw (ne-eqb kind 2 m, ne-eqb kind 4 n) (none (r .answer .number)); few = omega arith; text-is = refl }
+
+-- a done show or withdraw: its count and its room are those of a history
+record Tells (s : Store) (bytes : List ℕ) (n : ℕ) (room : List ℕ) (r : Step) : Type 0 where
+  valid : validSerial bytes n ≡ true
+  held : length (look s (take n bytes)) ≡ 1
+  fits : 2 * length (historyIn s (take n bytes)) ≤ length room
+  count : r .answer .faults ≡ length (historyIn s (take n bytes))
+  room-is : r .room ≡ written (historyIn s (take n bytes)) room
+
+module _ (s : Store) (g : Good s) (bytes : List ℕ) (n : ℕ) (room : List ℕ) where
+  show-tells : showStep s bytes n room .answer .number ≡ 0 → Tells s bytes n room (showStep s bytes n room)
+  show-tells =
+      show-cases s g bytes n (λ r. r .answer .number ≡ 0 → Tells s bytes n room r) room
+      (λ v e. absurd (omega arith)) (λ v l e. absurd (omega arith)) (λ v l f e. absurd (omega arith))
+      (λ v l f e. record { valid = v; held = l; fits = f; count = refl; room-is = refl })
+
+  withdraw-tells : withdrawStep s bytes n room .answer .number ≡ 0 → Tells s bytes n room (withdrawStep s bytes n room)
+  withdraw-tells =
+      withdraw-cases s g bytes n (λ r. r .answer .number ≡ 0 → Tells s bytes n room r) room
+      (λ v e. absurd (omega arith)) (λ v l e. absurd (omega arith)) (λ v l f e. absurd (omega arith))
+      (λ v l f e. record { valid = v; held = l; fits = f; count = refl; room-is = refl })
+
+listed-all : (kind faults : ℕ) → (kind ≡ 2) ⊎ (kind ≡ 4) → listedBy kind 0 faults ≡ faults
+unfolding listedBy
+listed-all kind faults = ⊎-elim (λ k. rw k) (λ k. rw k)
+
+-- so its plan has a card, whose pairs a room for every fault holds; and once they are written, they are those that the step lists
+module _ (s : Store) (g : Good s) (p : Parsed) (k : (p .kind ≡ 2) ⊎ (p .kind ≡ 4)) {r : Plan} (plan : Plans (asked s p .answer) s (p .serial) (p .len) r) (z : r .number ≡ 0)
+    (room : List ℕ) (long : 2 * mostFaults ≤ length room) where
+  tells : Tells s (p .serial) (p .len) enough (asked s p)
+  tells = go k (sym (plan .answer .number-is) ∙ z)
+    where
+      go : (p .kind ≡ 2) ⊎ (p .kind ≡ 4) → asked s p .answer .number ≡ 0 → Tells s (p .serial) (p .len) enough (asked s p)
+      go (inl e) = rw (asked-withdraw s p e) (withdraw-tells s g (p .serial) (p .len) enough)
+      go (inr e) = rw (asked-show s p e) (show-tells s g (p .serial) (p .len) enough)
+
+  pub holds-pairs : Holds s r room
+  holds-pairs = record { bytes = p .serial; n = p .len; places = plan .places z; one = tells .held; wide = omega (arith, tells .fits, enough-long) }
+
+  pub lists-pairs : {left : List ℕ} → Paired s r room left → Lists (p .kind) (asked s p) (r .faults) left
+  lists-pairs {left} d =
+      let h = historyIn s (take (p .len) (p .serial)) in
+      let f = plan .answer .faults-are in
+      record {
+        count-is = rw (sym (plan .answer .number-is) ∙ z, listed-all (p .kind) (asked s p .answer .faults) k) f;
+        few = omega (arith, tells .fits, enough-long, tells .count, f);
+        text-is = rw (f, tells .count, d .pairs-are (p .serial) (p .len) (plan .places z) (tells .held), tells .room-is) (pairs-only h _ ∙ sym (pairs-only h _));
+      }
+
+-- a line that is refused, and one that asks for no change, leave the store
+
+asked-cases : (s : Store) (p : Parsed) (P : Step → Type 0)
+    → (p .kind ≡ 1 → P (enterStep s (p .serial) (p .len)))
+    → (p .kind ≡ 2 → P (withdrawStep s (p .serial) (p .len) enough))
+    → (p .kind ≡ 3 → P (fileStep s (p .serial) (p .len) (p .day) (p .code)))
+    → P (showStep s (p .serial) (p .len) enough)
+    → P (stays (refused 12) s [])
+    → P (asked s p)
+unfolding asked
+asked-cases s p P enter withdraw file show bad =
+    by-cases (eqb (p .kind) 1) (λ e. rw e (enter (eqb-true (p .kind) 1 e)))
+    (λ e. rw e (by-cases (eqb (p .kind) 2) (λ e. rw e (withdraw (eqb-true (p .kind) 2 e)))
+    (λ e. rw e (by-cases (eqb (p .kind) 3) (λ e. rw e (file (eqb-true (p .kind) 3 e)))
+    (λ e. rw e (by-cases (eqb (p .kind) 4) (λ e. rw e show) (λ e. rw e bad)))))))
+
+module _ (w : List ℕ) (ok : sound w ≡ true) (p : Parsed) where
+  abbrev Stays : Step → Type 0
+  Stays r = (r .answer .number ≡ 0 → ⊥) → r .store ≡ decode w
+
+  words-stay : {s : Store} → s ≡ decode w → w ≡ encode s
+  words-stay e = sym (sound-good w ok .1) ∙ ap encode (sym e)
+
+  pub made-refused : (asked (decode w) p .answer .number ≡ 0 → ⊥) → w ≡ encode (asked (decode w) p .store)
+  made-refused n = words-stay (go n)
+    where
+      go : Stays (asked (decode w) p)
+      go =
+          asked-cases (decode w) p Stays
+          (λ k. enter-cases (decode w) (sound-good w ok .0) (p .serial) (p .len) Stays (λ v n. refl) (λ v l n. refl) (λ v l f n. refl) (λ v l f n. absurd (n refl)))
+          (λ k. withdraw-cases (decode w) (sound-good w ok .0) (p .serial) (p .len) Stays enough (λ v n. refl) (λ v l n. refl) (λ v l f n. refl) (λ v l f n. absurd (n refl)))
+          (λ k. file-cases (decode w) (sound-good w ok .0) (p .serial) (p .len) Stays (p .day) (p .code) (λ v n. refl) (λ v u n. refl) (λ v u l n. refl) (λ v u l f n. refl) (λ v u l f n. absurd (n refl)))
+          (show-cases (decode w) (sound-good w ok .0) (p .serial) (p .len) Stays enough (λ v n. refl) (λ v l n. refl) (λ v l f n. refl) (λ v l f n. refl))
+          (λ n. refl)
+
+  pub made-none : (p .kind ≡ 1 → ⊥) → (p .kind ≡ 2 → ⊥) → (p .kind ≡ 3 → ⊥) → w ≡ encode (asked (decode w) p .store)
+  made-none a b c =
+      words-stay (asked-cases (decode w) p (λ (r : Step). r .store ≡ decode w) (λ k. absurd (a k)) (λ k. absurd (b k)) (λ k. absurd (c k))
+      (show-cases (decode w) (sound-good w ok .0) (p .serial) (p .len) (λ (r : Step). r .store ≡ decode w) enough (λ v. refl) (λ v l. refl) (λ v l f. refl) (λ v l f. refl)) refl)
+
+-- one that goes ahead is ready for its change, and what that leaves is what the line leaves
+module _ (s : Store) (p : Parsed) {r : Plan} (plan : Plans (asked s p .answer) s (p .serial) (p .len) r) where
+  as-step : {t : Step} → asked s p ≡ t → Plans (t .answer) s (p .serial) (p .len) r
+  as-step e = subst (λ (t : Step). Plans (t .answer) s (p .serial) (p .len) r) e plan
+
+  left : {t : Step} → asked s p ≡ t → {words : List ℕ} → words ≡ encode (t .store) → words ≡ encode (asked s p .store)
+  left e h = h ∙ ap (λ (t : Step). encode (t .store)) (sym e)
+
+  module _ (k : p .kind ≡ 1) where
+    pub ready-enter : Plans (enterStep s (p .serial) (p .len) .answer) s (p .serial) (p .len) r
+    ready-enter = as-step (asked-enter s p k)
+
+    pub made-enter : {words : List ℕ} → words ≡ encode (enterStep s (p .serial) (p .len) .store) → words ≡ encode (asked s p .store)
+    made-enter = left (asked-enter s p k)
+
+  module _ (k : p .kind ≡ 2) where
+    pub ready-withdraw : r .number ≡ 0 → Ready (withdrawStep s) s r
+    ready-withdraw z = record { bytes = p .serial; n = p .len; room = enough; plan = as-step (asked-withdraw s p k); done = z }
+
+    pub made-withdraw : {words : List ℕ} → Follows (withdrawStep s) s r words → words ≡ encode (asked s p .store)
+    made-withdraw f = left (asked-withdraw s p k) (f .leaves (p .serial) (p .len) enough (as-step (asked-withdraw s p k)))
+
+  module _ (k : p .kind ≡ 3) where
+    pub ready-file : r .number ≡ 0 → Ready (fileWith s (p .day) (p .code)) s r
+    ready-file z = record { bytes = p .serial; n = p .len; room = []; plan = as-step (asked-file s p k); done = z }
+
+    pub made-file : {words : List ℕ} → Follows (fileWith s (p .day) (p .code)) s r words → words ≡ encode (asked s p .store)
+    made-file f = left (asked-file s p k) (f .leaves (p .serial) (p .len) [] (as-step (asked-file s p k)))

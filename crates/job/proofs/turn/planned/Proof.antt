@@ -1,0 +1,42 @@
+-- `turn::planned` meets its contract: the plan of each kind is that of the step that the kind asks.
+use borrow.Author.Needs.{needs}
+use mathlib.Core.Path.{refl}
+use native.Mathlib.Omega.{arith}
+use Rattle.job.proofs.Asking.{asked-enter, asked-withdraw, asked-file, asked-show, asked-bad, enough-long}
+use Rattle.model.specs.Layout.{decode}
+use Rattle.model.specs.Job.{enough}
+use Rattle.job.proofs.turn.planned.Statement.{statement}
+use Rattle.job.proofs.turn.planned.Tie as tie
+
+returns : tie.Need-returns
+returns c = let a = c .before .before .before .before .args in rw (asked-enter (decode (a .words .now)) (a .p) (c .before .match .keys1)) (c .plan-enter .ensures)
+
+returns-2 : tie.Need-returns-2
+returns-2 c = let a = c .before .before .before .before .args in rw (asked-withdraw (decode (a .words .now)) (a .p) (c .before .match .keys2)) (c .plan-withdraw .ensures .with-room enough enough-long)
+
+returns-3 : tie.Need-returns-3
+returns-3 c = let a = c .before .before .before .before .args in rw (asked-file (decode (a .words .now)) (a .p) (c .before .match .keys3)) (c .plan-file .ensures)
+
+returns-4 : tie.Need-returns-4
+returns-4 c = let a = c .before .before .before .before .args in rw (asked-show (decode (a .words .now)) (a .p) (c .before .match .keys4)) (c .plan-show .ensures .with-room enough enough-long)
+
+returns-5 : tie.Need-returns-5
+returns-5 c =
+    let r = c .match .rest in
+    let a = c .before .before .before .args in
+    rw (asked-bad (decode (a .words .now)) (a .p) (r .0 .0 .0 .1) (r .0 .0 .1) (r .0 .1) (r .1))
+    (record { answer = record { number-is = refl; comparisons-are = refl; scanned-is = refl; faults-are = refl }; places = λ e. absurd (omega arith) })
+
+pub planned-spec : {M : Type 1} → statement M
+planned-spec =
+    tie.close
+    (tie.spec
+    (λ c κs. search needs)
+    (λ c κs. search needs)
+    (λ c κs. search needs)
+    (λ c κs. search needs)
+    returns
+    returns-2
+    returns-3
+    returns-4
+    returns-5)

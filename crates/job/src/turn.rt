@@ -1,0 +1,148 @@
+// One line of a job on a store known to be sound. Its whole answer is known before a word is changed, so a line whose answer does not fit
+// has no effect.
+ghost use mathlib.Core.Path.{_≡_};
+ghost use mathlib.Core.Bool.{true};
+ghost use Prim.Native.Nat.{_*_, _≤_};
+ghost use lib.ListN.{length};
+ghost use Rattle.model.specs.Layout.{mostFaults, decode, encode, sound};
+ghost use Rattle.store.specs.Plans.{Plans};
+ghost use Rattle.job.specs.Counts.{tallyOf};
+ghost use Rattle.job.specs.Turns.{asked, Lists, turnOf, Turns};
+use super::fields;
+use super::fields::Parsed;
+use super::tally;
+use super::tally::Tally;
+use super::text;
+use store::enters;
+use store::files;
+use store::plans;
+use store::plans::Plan;
+use store::shows;
+use store::withdraws;
+
+// Whether the answer fitted, where the text ends now, and the tally after the line.
+pub struct Turned {
+    pub fits: bool,
+    pub end: usize,
+    pub tally: Tally,
+}
+
+// The room that a line is given for pairs: two words for each fault that a store can hold.
+const ROOM: usize = 4096;
+
+// The plan of a line, by its kind: 12 for one that is not well formed.
+fn planned(words: &[u32], p: Parsed) -> Plan
+    requires { ⌜ sound (now words) ≡ true ⌝ }
+    ensures { λ r. ⌜ Plans (asked (decode (now (words .entry))) p .answer) (decode (now (words .entry))) (p .serial) (p .len) r ⌝ }
+{
+    let kind = p.kind;
+    let serial = p.serial;
+    match kind {
+        1 => plans::plan_enter(words, serial, p.len),
+        2 => plans::plan_withdraw(words, serial, p.len, ROOM),
+        3 => plans::plan_file(words, serial, p.len, p.day, p.code),
+        4 => plans::plan_show(words, serial, p.len, ROOM),
+        _ => Plan {
+            number: 12,
+            comparisons: 0,
+            scanned: 0,
+            faults: 0,
+            bucket: 0,
+            cell: 0,
+            prev: 0,
+        },
+    }
+}
+
+// Writes the pairs that a done show or withdraw lists into the room, and says how many there are; any other line lists none.
+fn listed(words: &[u32], p: Parsed, plan: Plan, room: &mut [u32]) -> u32
+    requires { ⌜ (sound (now words) ≡ true) × Plans (asked (decode (now words)) p .answer) (decode (now words)) (p .serial) (p .len) plan × (2 * mostFaults ≤ length (now room)) ⌝ }
+    ensures { λ r. ⌜ Lists (p .kind) (asked (decode (now (words .entry))) p) r (now (room .exit)) ⌝ }
+{
+    if plan.number != 0 {
+        return 0;
+    }
+    let kind = p.kind;
+    match kind {
+        2 | 4 => {
+            shows::put_history(words, plan, room);
+            plan.faults
+        }
+        _ => 0,
+    }
+}
+
+// Makes the change of a line that goes ahead; any other leaves the words as they are.
+fn made(words: &mut [u32], p: Parsed, plan: Plan)
+    requires { ⌜ (sound (now words) ≡ true) × Plans (asked (decode (now words)) p .answer) (decode (now words)) (p .serial) (p .len) plan ⌝ }
+    ensures { λ _. ⌜ now (words .exit) ≡ encode (asked (decode (now (words .entry))) p .store) ⌝ }
+{
+    if plan.number != 0 {
+        return;
+    }
+    let kind = p.kind;
+    let serial = p.serial;
+    match kind {
+        1 => enters::make_enter(words, serial, p.len, plan),
+        2 => withdraws::make_withdraw(words, plan),
+        3 => files::make_file(words, plan, p.day, p.code),
+        _ => (),
+    }
+}
+
+// One line, with its answer from `at` on. Where the answer does not fit, nothing changes but the room.
+pub fn turn(
+    words: &mut [u32],
+    room: &mut [u32],
+    line: &[u8],
+    out: &mut [u8],
+    at: usize,
+    tally: Tally,
+) -> Turned
+    requires { ⌜ (sound (now words) ≡ true) × (2 * mostFaults ≤ length (now room)) × (at ≤ length (now out)) ⌝ }
+    ensures { λ r. ⌜ Turns (turnOf (now (words .entry)) (now (line .entry)) (now (out .entry)) at (tallyOf tally)) at r (now (words .exit)) (now (out .exit)) ⌝ }
+{
+    let p = fields::parse(line);
+    let plan = planned(words, p);
+    let count = listed(words, p, plan, room);
+    let long = text::answer_len(
+        plan.number,
+        plan.comparisons,
+        plan.scanned,
+        plan.faults,
+        count,
+        room,
+    );
+    if out.len() < at + long {
+        return Turned {
+            fits: false,
+            end: at,
+            tally,
+        };
+    }
+    let before = plans::buckets(words);
+    made(words, p, plan);
+    let after = plans::buckets(words);
+    let end = text::put_answer(
+        out,
+        at,
+        plan.number,
+        plan.comparisons,
+        plan.scanned,
+        plan.faults,
+        count,
+        room,
+    );
+    Turned {
+        fits: true,
+        end,
+        tally: tally::counted(
+            tally,
+            p.kind,
+            plan.number == 0,
+            before,
+            after,
+            plan.comparisons,
+        ),
+    }
+}

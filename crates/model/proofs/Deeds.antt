@@ -1,0 +1,189 @@
+-- A job is the calls of its answered lines (`job-calls`). A line on sound words gives what its call gives (`line-step`); line by line, a job on the store that sound words stand for walks
+-- with the calls on the words (`lines-run`). So every sequence of calls and jobs leaves the words of a sequence of calls (`deeds-run`),
+-- and the demands hold of it (`deeds-demand3`, `deeds-demand2`), also at every line in the middle of a job (`at-a-line`, `filing-line`).
+use Prim.Native.Nat.{ℕ, suc, _+_, _-_, _≤_}
+use mathlib.Core.Path.{_≡_, refl, sym, ap, _∙_, subst}
+use mathlib.Core.Logic.{_↔_}
+use mathlib.Core.List.{List, [], _∷_, _++_, map, append-nil, append-assoc}
+use mathlib.Core.Bool.{Bool, true, false, cond}
+use native.Mathlib.Omega.{arith}
+use lib.Dec.{ltb}
+use lib.ListN.{length, take, drop, length-replicate}
+use Rattle.rules.proofs.Tests.{by-cases}
+use Rattle.model.specs.Serial.{validSerial, validFault}
+use Rattle.model.specs.Model.{Store}
+use Rattle.model.specs.Layout.{encode, decode, sound}
+use Rattle.model.specs.Calls.{Step, scratchNeed, openCall}
+use Rattle.model.specs.Runs.{Act, perform, Call, Call.acting, wordsAfter, run, events, taken, gone, since}
+use Rattle.model.specs.Job.{Line, linesOf, padded, lineOf, enough, stepOf, answerText, Tally, counted, Run, runLines, started, Finished, mostText, job}
+use Rattle.model.specs.Deeds.{actsOf, tidy, callsBy, callsOf, stepBy, said, Deed, Deed.calling, Deed.working, wordsBy, wordsByAll, callsIn, callsInAll}
+use Rattle.model.proofs.Look.{look}
+use Rattle.model.proofs.Sound.{sound-good}
+use Rattle.model.proofs.Fresh.{fresh-sound}
+use Rattle.model.proofs.Demand3.{good-act}
+use Rattle.model.proofs.Demand2.{emptyBook}
+use Rattle.model.proofs.Outcomes.{read-back, call-cases, opened-fresh, sound-run}
+use Rattle.model.proofs.Demands.{Demand3, Demand2, demand3, demand2}
+
+run-append : (w : List ℕ) (cs ds : List Call) → run w (cs ++ ds) ≡ run (run w cs) ds
+run-append w [] ds = refl
+run-append w (c ∷ cs) ds = run-append (wordsAfter w c) cs ds
+
+tidy-long : scratchNeed ≤ length tidy
+unfolding tidy
+tidy-long = omega (arith, length-replicate {A = ℕ} scratchNeed 0)
+
+module _ (w : List ℕ) (ok : sound w ≡ true) where
+  -- an act with enough scratch
+  act-step : (a : Act) → perform (decode w) a ≡ stepBy w (a ∷ [])
+  act-step a =
+      call-cases w tidy a ok (λ o. perform (decode w) a ≡ record { answer = o .answer; store = decode (o .words); room = o .room })
+      (λ h. absurd (omega (arith, tidy-long)))
+      (λ h. rw (read-back (perform (decode w) a .store) (good-act (decode w) (sound-good w ok .0) a .fair)))
+
+  line-step : (l : Line) → stepOf (decode w) l ≡ stepBy w (actsOf l)
+  unfolding stepOf
+  line-step Line.bad = refl
+  line-step (Line.enter f) = act-step (Act.enter (padded f) (length f))
+  line-step (Line.show f) = act-step (Act.show (padded f) (length f) enough)
+  line-step (Line.withdraw f) = act-step (Act.withdraw (padded f) (length f) enough)
+  line-step (Line.file f day code) = act-step (Act.file (padded f) (length f) day code)
+
+  step-store : (l : Line) → stepBy w (actsOf l) .store ≡ decode (run w (map (acting tidy) (actsOf l)))
+  step-store Line.bad = refl
+  step-store (Line.enter f) = refl
+  step-store (Line.show f) = refl
+  step-store (Line.withdraw f) = refl
+  step-store (Line.file f day code) = refl
+
+-- a job that goes through lines from one state to another answers some first ones of them
+record Through (w : List ℕ) (xs : List (List ℕ)) (from to : Run) : Type 0 where
+  pub done : ℕ
+  pub lines : to .lines ≡ from .lines + done
+  pub store : to .store ≡ decode (run w (callsOf (take done xs)))
+  pub text : to .text ≡ from .text ++ said w (take done xs)
+
+-- the state after one more line
+abbrev after : Run → List ℕ → Run
+after r x =
+    let step = stepOf (r .store) (lineOf x) in
+    record {
+      number = 0;
+      lines = suc (r .lines);
+      text = r .text ++ answerText (lineOf x) step;
+      store = step .store;
+      tally = counted (r .tally) (r .store) (lineOf x) step;
+    }
+
+module _ (w : List ℕ) (ok : sound w ≡ true) (r : Run) (e : r .store ≡ decode w) (x : List ℕ) where
+  same-step : stepOf (r .store) (lineOf x) ≡ stepBy w (actsOf (lineOf x))
+  same-step = ap (λ (s : Store). stepOf s (lineOf x)) e ∙ line-step w ok (lineOf x)
+
+  same-store : after r x .store ≡ decode (run w (callsBy x))
+  same-store = ap (λ (q : Step). q .store) same-step ∙ step-store w ok (lineOf x)
+
+  one-more : (xs : List (List ℕ)) (to : Run) → Through (run w (callsBy x)) xs (after r x) to → Through w (x ∷ xs) r to
+  one-more xs to q =
+      let later = said (run w (callsBy x)) (take (q .done) xs) in
+      record {
+        done = suc (q .done);
+        lines = omega (arith, q .lines);
+        store = q .store ∙ ap decode (sym (run-append w (callsBy x) (callsOf (take (q .done) xs))));
+        text =
+            q .text ∙ append-assoc (r .text) (answerText (lineOf x) (stepOf (r .store) (lineOf x))) later
+            ∙ ap (λ (s : Step). r .text ++ (answerText (lineOf x) s ++ later)) same-step;
+      }
+
+-- the same, stopped before a line
+abbrev stopped : Run → Run
+stopped r = record { number = 10; lines = r .lines; text = r .text; store = r .store; tally = r .tally }
+
+run-step : (x : List ℕ) (xs : List (List ℕ)) (room : ℕ) (r : Run)
+    → runLines (x ∷ xs) room r ≡ cond (ltb room (length (r .text) + length (answerText (lineOf x) (stepOf (r .store) (lineOf x))))) (stopped r) (runLines xs room (after r x))
+unfolding runLines
+run-step x xs room r = refl
+
+run-none : (room : ℕ) (r : Run) → runLines [] room r ≡ r
+unfolding runLines
+run-none room r = refl
+
+either : {A : Type 0} (P : A → Type 0) (b : Bool) (x y : A) → P x → P y → P (cond b x y)
+either P true x y p q = p
+either P false x y p q = q
+
+lines-run : (xs : List (List ℕ)) (w : List ℕ) → sound w ≡ true → (room : ℕ) (r : Run) → r .store ≡ decode w → Through w xs r (runLines xs room r)
+lines-run [] w ok room r e = subst (Through w [] r) (sym (run-none room r)) (record { done = 0; lines = omega arith; store = e; text = sym (append-nil (r .text)) })
+lines-run (x ∷ xs) w ok room r e =
+    subst (Through w (x ∷ xs) r) (sym (run-step x xs room r))
+    (either (Through w (x ∷ xs) r) (ltb room (length (r .text) + length (answerText (lineOf x) (stepOf (r .store) (lineOf x))))) (stopped r) (runLines xs room (after r x))
+    (record { done = 0; lines = omega arith; store = e; text = sym (append-nil (r .text)) })
+    (one-more w ok r e x xs (runLines xs room (after r x))
+    (lines-run xs (run w (callsBy x)) (sound-run w ok (callsBy x)) room (after r x) (same-store w ok r e x))))
+
+-- a job on the words w that ended so
+pub record JobCalls (w text out : List ℕ) (j : Finished) : Type 0 where
+  -- the words that it leaves are those that the calls of its answered lines leave
+  pub words-are : j .words ≡ run w (callsOf (take (j .lines) (linesOf text)))
+  -- what it wrote is what those lines say; the output behind stays
+  pub bytes-are : j .bytes ≡ length (said w (take (j .lines) (linesOf text)))
+  pub out-is : j .out ≡ said w (take (j .lines) (linesOf text)) ++ drop (j .bytes) out
+
+-- one that goes on to its lines
+went : (w text out : List ℕ) (t : Tally) → sound w ≡ true → (r : Run) → Through w (linesOf text) (started (decode w) t) r
+    → (encode (r .store) ≡ run w (callsOf (take (r .lines) (linesOf text)))) × (r .text ≡ said w (take (r .lines) (linesOf text)))
+went w text out t ok r q =
+    let z : r .lines ≡ q .done = omega (arith, q .lines) in
+    let cs = callsOf (take (q .done) (linesOf text)) in
+    rw z (ap encode (q .store) ∙ sound-good (run w cs) (sound-run w ok cs) .1, q .text)
+
+pub job-calls : (w : List ℕ) → sound w ≡ true → (scratch text out : List ℕ) (t : Tally) → JobCalls w text out (job w scratch text out t)
+unfolding job
+job-calls w ok scratch text out t =
+    by-cases (ltb (length scratch) scratchNeed)
+    (λ h. rw h (record { words-are = refl; bytes-are = refl; out-is = refl }))
+    (λ h. rw h (by-cases (ltb mostText (length text))
+    (λ m. rw m (record { words-are = refl; bytes-are = refl; out-is = refl }))
+    (λ m. let r = runLines (linesOf text) (length out) (started (decode w) t) in
+    let q = went w text out t ok r (lines-run (linesOf text) w ok (length out) (started (decode w) t) refl) in
+    rw (m, ok) (record { words-are = q .0; bytes-are = ap length (q .1); out-is = ap (λ (l : List ℕ). l ++ drop (length (r .text)) out) (q .1) }))))
+
+-- sequences
+
+deed-run : (w : List ℕ) → sound w ≡ true → (d : Deed) → wordsBy w d ≡ run w (callsIn w d)
+deed-run w ok (calling c) = refl
+deed-run w ok (working scratch text out t) = job-calls w ok scratch text out t .words-are
+
+pub deeds-run : (w : List ℕ) → sound w ≡ true → (ds : List Deed) → wordsByAll w ds ≡ run w (callsInAll w ds)
+deeds-run w ok [] = refl
+deeds-run w ok (d ∷ ds) =
+    let e = deed-run w ok d in
+    let v = wordsBy w d in
+    let sv : sound v ≡ true = rw e (sound-run w ok (callsIn w d)) in
+    deeds-run v sv ds ∙ ap (λ (u : List ℕ). run u (callsInAll v ds)) e ∙ sym (run-append w (callsIn w d) (callsInAll v ds))
+
+-- the demands over calls and jobs in any order after an accepted Open
+module _ (w₀ : List ℕ) (c f : ℕ) (accepted : openCall w₀ c f .number ≡ 0) where
+  abbrev w : List ℕ
+  w = openCall w₀ c f .words
+
+  ok : sound w ≡ true
+  ok = let o = opened-fresh w₀ c f accepted in rw (o .1) (fresh-sound c f (o .0))
+
+  pub deeds-demand3 : (ds : List Deed) → Demand3 (wordsByAll w ds) (events w (callsInAll w ds))
+  deeds-demand3 ds = rw (deeds-run w ok ds) (demand3 w₀ c f accepted (callsInAll w ds))
+
+  pub deeds-demand2 : (ds : List Deed) → Demand2 w (emptyBook c f) (callsInAll w ds) × (wordsByAll w ds ≡ run w (callsInAll w ds))
+  deeds-demand2 ds = (demand2 w₀ c f accepted (callsInAll w ds), deeds-run w ok ds)
+
+  -- the same in the middle of a job, before the line that some lines lead to
+  pub at-a-line : (ds : List Deed) (xs : List (List ℕ)) → Demand3 (run (wordsByAll w ds) (callsOf xs)) (events w (callsInAll w ds ++ callsOf xs))
+  at-a-line ds xs =
+      rw (deeds-run w ok ds, ← (run-append w (callsInAll w ds) (callsOf xs))) (demand3 w₀ c f accepted (callsInAll w ds ++ callsOf xs))
+
+  -- a filing line that is reached, on a valid serial that is held, with day and code in range: 9 exactly at the fault limit
+  pub filing-line : (ds : List Deed) (xs : List (List ℕ)) (x field : List ℕ) (day code : ℕ) → lineOf x ≡ Line.file field day code
+      → validSerial (padded field) (length field) ≡ true → validFault day code ≡ true
+      → length (look (decode (run (wordsByAll w ds) (callsOf xs))) (take (length field) (padded field))) ≡ 1
+      → (stepBy (run (wordsByAll w ds) (callsOf xs)) (actsOf (lineOf x)) .answer .number ≡ 9)
+      ↔ (since taken (events w (callsInAll w ds ++ callsOf xs)) 0 - since gone (events w (callsInAll w ds ++ callsOf xs)) 0 ≡ decode (run (wordsByAll w ds) (callsOf xs)) .faultLimit)
+  filing-line ds xs x field day code e v u one = rw e (at-a-line ds xs .room tidy (padded field) (length field) day code tidy-long v u one)
