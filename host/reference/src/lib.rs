@@ -8,6 +8,7 @@
 pub mod calls;
 pub mod damages;
 pub mod job;
+pub mod jobs;
 pub mod layout;
 pub mod lists;
 pub mod operations;

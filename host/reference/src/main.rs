@@ -1,16 +1,22 @@
-//! `reference depot` reads standard input and writes what the program `depot` must write for it. `reference soundness` writes what the
-//! program `store_soundness` must write. `reference calls` reads a script and writes what the program `store_calls` must write for it.
+//! `reference depot` reads standard input and writes what the program `depot` must write for it. `reference jobs FOLDER` writes jobs
+//! there, NAME.in, and what `depot` must write for each, NAME.out. `reference soundness` writes what the program `store_soundness`
+//! must write. `reference calls` reads a script and writes what the program `store_calls` must write for it.
 use std::env;
+use std::fs;
 use std::io::{self, Read, Write};
+use std::path::Path;
 use std::process;
 
 fn main() -> io::Result<()> {
     let output = match env::args().skip(1).collect::<Vec<_>>().as_slice() {
         [word] if word == "depot" => reference::job::depot(&input()?),
+        [word, folder] if word == "jobs" => jobs(Path::new(folder))?,
         [word] if word == "soundness" => reference::damages::report().into_bytes(),
         [word] if word == "calls" => reference::script::report(&String::from_utf8_lossy(&input()?)).into_bytes(),
         _ => {
-            eprintln!("usage: reference depot <JOB, reference soundness, or reference calls <SCRIPT");
+            eprintln!(
+                "usage: reference depot <JOB, reference jobs FOLDER, reference soundness, or reference calls <SCRIPT"
+            );
             process::exit(2);
         }
     };
@@ -21,4 +27,13 @@ fn input() -> io::Result<Vec<u8>> {
     let mut input = Vec::new();
     io::stdin().read_to_end(&mut input)?;
     Ok(input)
+}
+
+fn jobs(folder: &Path) -> io::Result<Vec<u8>> {
+    let jobs = reference::jobs::all();
+    for job in &jobs {
+        fs::write(folder.join(format!("{}.in", job.name)), &job.input)?;
+        fs::write(folder.join(format!("{}.out", job.name)), &job.output)?;
+    }
+    Ok(format!("{} jobs\n", jobs.len()).into_bytes())
 }
