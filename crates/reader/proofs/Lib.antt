@@ -3,3 +3,4 @@ pub mod Opening
 pub mod Closing
 pub mod Wholes
 pub mod DepotLaws
+pub mod OneOutcome

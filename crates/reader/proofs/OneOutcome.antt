@@ -1,0 +1,45 @@
+-- One outcome only, gathered for every entry point: two programs that meet its contract give the same and leave the same, on every input.
+-- Each contract is a set of equations with the definitions, so two that meet it are equal to one thing.
+use mathlib.Core.Path.{_≡_, sym, ap, _∙_}
+use mathlib.Core.List.{List}
+use Prim.Native.Nat.{ℕ}
+use native.Mathlib.Omega.{arith}
+use lib.ListN.{length, take, length-take}
+use Rattle.rules.specs.Code.{codeOf}
+use Rattle.rules.specs.Table.{addressOf}
+use Rattle.model.specs.Calls.{openCall}
+use Rattle.model.specs.Runs.{Act, Call.acting}
+use Rattle.store.specs.Leaves.{Opens}
+use Rattle.store.specs.Sequences.{Given, Meets}
+use Rattle.store.proofs.OneOutcome as Store
+use Rattle.job.specs.Sequences.{Left, Works}
+use Rattle.job.specs.declared.tally.Tally.{Tally}
+use Rattle.job.proofs.OneOutcome as Job
+use Rattle.reader.specs.Depot.{depotText, Writes}
+
+-- `reader_code` and `reader_address`
+pub one-code : (bytes : List ℕ) (a b : ℕ) → a ≡ codeOf bytes → b ≡ codeOf bytes → a ≡ b
+one-code bytes a b p q = p ∙ sym q
+
+pub one-address : (code maxp p a b : ℕ) → a ≡ addressOf code maxp p → b ≡ addressOf code maxp p → a ≡ b
+one-address code maxp p a b e f = e ∙ sym f
+
+-- `open`
+pub one-opening : (w : List ℕ) (c f m n : ℕ) (u v : List ℕ) → Opens (openCall w c f) m u → Opens (openCall w c f) n v → (m ≡ n) × (u ≡ v)
+one-opening w c f m n u v p q = Store.one-opening (openCall w c f) p q
+
+-- `enter`, `file`, `show` and `withdraw`
+pub one-call : (w scratch : List ℕ) (act : Act) (a b : Given) → Meets w (acting scratch act) a → Meets w (acting scratch act) b → a ≡ b
+one-call = Store.one-outcome
+
+-- `work` and `run`
+pub one-job : (w scratch text out : List ℕ) (t : Tally) (a b : Left) → Works w scratch text out t a → Works w scratch text out t b → a ≡ b
+one-job = Job.one-outcome
+
+-- `answered`: how many bytes are written, and which
+pub one-text : (input : List ℕ) (m n : ℕ) (a b : List ℕ) → Writes (depotText input) m a → Writes (depotText input) n b → (m ≡ n) × (take m a ≡ take n b)
+one-text input m n a b p q =
+    let e = p .text-is ∙ sym (q .text-is) in (
+      omega (arith, ap length e, length-take m a, length-take n b, p .within, q .within),
+      e,
+    )
