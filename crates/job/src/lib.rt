@@ -9,10 +9,10 @@ ghost use Rattle.job.specs.Runs.{linesOn, Ends, turnedBack, Did};
 ghost use Rattle.job.specs.Counts.{tallyOf};
 
 pub mod fields; // fields.rt: a line taken apart into its fields
-pub mod lines; // lines.rt: where a line or a field ends
+mod lines; // lines.rt: where a line or a field ends
 pub mod tally; // tally.rt: what a job counts
 pub mod text; // text.rt: numbers and answers as text
-pub mod turn; // turn.rt: one line, from its bytes to its answer
+mod turn; // turn.rt: one line, from its bytes to its answer
 
 pub use tally::Tally;
 
