@@ -1,4 +1,4 @@
--- What a reader of words that stand for a store (`Rep w s`) finds there: the header (`rep-read`), every bucket's chain to its end
+-- What a reader of words that stand for a store (`Rep w s`) finds there: its limits (`rep-sized`), every bucket's chain to its end
 -- (`bucket-ends`, `bucket-cells`), and each card of a chain with its cell's words and its history (`Stored`, by `stored`).
 use mathlib.Core.Path.{_≡_, refl, sym, ap, subst, _∙_}
 use mathlib.Core.Bool.{true}
@@ -10,7 +10,7 @@ use lib.ListN.{length, getD, length-map}
 use Rattle.rules.proofs.Tests.{all-of}
 use Rattle.model.specs.Lists.{between, all, join, total}
 use Rattle.model.specs.Model.{Fault, Card, Store, cards, bucket, cellsOf, faultCellsOf}
-use Rattle.model.specs.Layout.{Cell, atsOf, headOr, chained, cardWidth, faultWidth, segmentsAt, cardsAt, faultsAt, lengthFor, first, last, follow, cardCell, faultCell, cardChains, faultChains, header, front, cardWord, faultWord, readCard, readChain, decode}
+use Rattle.model.specs.Layout.{Cell, atsOf, headOr, chained, cardWidth, faultWidth, segmentsAt, cardsAt, faultsAt, lengthFor, first, last, follow, cardCell, faultCell, cardChains, faultChains, front, cardWord, faultWord, readCard, readChain, decode}
 use Rattle.model.specs.Meaning.{Leads, nextCard, nextFault}
 use Rattle.model.proofs.Lists.{between-is, map-append, Every, every-parts, every-join}
 use Rattle.model.proofs.Sums.{bit, bit-same, total-append, total-one}
@@ -19,7 +19,7 @@ use Rattle.model.proofs.Chains.{Memory, Stand, stand-parts, chained-append}
 use Rattle.model.proofs.Part.{cellIn, Held, held-follow}
 use Rattle.model.proofs.Fair.{inCell, limits-of, card-cells}
 use Rattle.model.proofs.Rep.{Rep, rep-front, size-top}
-use Rattle.model.proofs.Decode.{head-cards, head-faults, segment-at, limit-at, fault-limit-at, cards-at, read-chain}
+use Rattle.model.proofs.Decode.{head-faults, segment-at, limit-at, fault-limit-at, cards-at, read-chain}
 use Rattle.model.proofs.Split.{ats-cards}
 use Rattle.store.specs.Cells.{Sized, Read}
 use Rattle.store.specs.Search.{Ends, faultsFrom}
@@ -49,8 +49,6 @@ held-ends w base width n chains z e r j =
 pub record Stored (w : List ℕ) (s : Store) (c : Card) (after : List Card) : Type 0 where
   pub from-one : 1 ≤ c .at
   pub in-limit : c .at ≤ s .limit
-  pub next-word : cardWord w (c .at) 0 ≡ first (cellsOf after)
-  pub first-word : cardWord w (c .at) 6 ≡ first (faultCellsOf (c .faults))
   pub last-word : cardWord w (c .at) 7 ≡ last (faultCellsOf (c .faults))
   pub count-word : cardWord w (c .at) 8 ≡ length (c .faults)
   pub history : faultsFrom (s .faultLimit) w (cardWord w (c .at) 6) ≡ c .faults
@@ -64,10 +62,6 @@ module _ {w : List ℕ} {s : Store} (r : Rep w s) where
   rep-sized =
       let l = limits-of (s .limit) (s .faultLimit) (r .fair .limits) in
       record { some = l .some; most = l .most; someFaults = l .someFaults; mostFaults = l .mostFaults; long = r .long; limit = limit-at w s r; faultLimit = fault-limit-at w s r }
-
-  pub rep-read : Read w (s .limit) (s .faultLimit) (s .maxp) (s .p)
-  unfolding front header cardsAt
-  rep-read = record { sized = rep-sized; maxp = rep-front r 3 (lit< tt); state = rep-front r 4 (lit< tt) }
 
   -- buckets
 
@@ -127,8 +121,6 @@ module _ {w : List ℕ} {s : Store} (r : Rep w s) where
       record {
         from-one = i .0;
         in-limit = i .1;
-        next-word = q 0 (lit< tt) ∙ sym (head-cards after);
-        first-word = q 6 (lit< tt);
         last-word = q 7 (lit< tt);
         count-word = q 8 (lit< tt) ∙ length-map (c .faults) (λ (f : Fault). f .at);
         history = g;
