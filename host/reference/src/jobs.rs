@@ -125,7 +125,7 @@ fn faults(random: &mut Random, number: usize) -> Vec<u8> {
 }
 
 /// Lines that a careless reader takes for well formed, or refuses by another number.
-const MALFORMED: [&str; 48] = [
+pub const MALFORMED: [&str; 48] = [
     "",
     " ",
     "  ",
