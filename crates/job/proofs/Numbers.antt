@@ -13,17 +13,6 @@ use Rattle.model.specs.Lists.{between, all}
 use Rattle.model.specs.Job.{isNumber, valueFrom}
 use Rattle.model.proofs.Lists.{between-is}
 
--- a test of each element, from a place on
-module _ (p : ℕ → Bool) (l : List ℕ) (i : ℕ) where
-  pub all-stop : i < length l → p (getD l i 0) ≡ false → all p (drop i l) ≡ false
-  all-stop h e = rw (drop-cons l i 0 h, e)
-
-  pub all-on : i < length l → p (getD l i 0) ≡ true → all p (drop (i + 1) l) ≡ all p (drop i l)
-  all-on h e = rw (drop-cons l i 0 h, e, add-one i)
-
-  pub all-end : length l ≤ i → all p (drop i l) ≡ true
-  all-end h = rw (drop-of-length-le l h)
-
 all-at : (p : ℕ → Bool) (l : List ℕ) (i : ℕ) → i < length l → all p l ≡ true → p (getD l i 0) ≡ true
 all-at p [] i h e = absurd (omega arith)
 all-at p (x ∷ xs) zero h e = both (p x) (all p xs) e .0

@@ -6,10 +6,11 @@ use mathlib.Core.Logic.{_≢_, _↔_}
 use mathlib.Core.List.{List, [], _∷_, _++_, map, append-nil, append-assoc}
 use mathlib.Core.Bool.{Bool, true, false, not, cond, false≢true}
 use native.Mathlib.Nat.{zero-add, suc-add}
+use native.Mathlib.Numerals.{add-one}
 use native.Mathlib.Omega.{arith}
 use lib.Dec.{ltb, leb, eqb, eqb·suc-suc}
-use lib.ListN.{length, take, drop, getD, set, length-take, List·getD-eq-default}
-use lib.Seq.{getD-take, getD-set-same, getD-set-other}
+use lib.ListN.{length, take, drop, getD, set, length-take, drop-of-length-le, List·getD-eq-default}
+use lib.Seq.{drop-cons, getD-take, getD-set-same, getD-set-other}
 use borrow.Author.Tests.{eq-eqb, ne-eqb, eqb-true, eqb-false, ltb-true, ltb-false, leb-true, le-leb}
 use Rattle.rules.proofs.Tests.{by-cases, not-both, both, all-of}
 use Rattle.model.specs.Lists.{between, all, same, keep, join, from}
@@ -268,3 +269,14 @@ every-map P g (x ∷ xs) r = (r .0, every-map P g xs (r .1))
 pub map-every : {A B : Type 0} (P : B → Type 0) (g : A → B) (l : List A) → Every (λ x. P (g x)) l → Every P (map g l)
 map-every P g [] r = tt
 map-every P g (x ∷ xs) r = (r .0, map-every P g xs (r .1))
+
+-- a test of each element, from a place on: what a loop over the elements goes by
+module _ (p : ℕ → Bool) (l : List ℕ) (i : ℕ) where
+  pub all-stop : i < length l → p (getD l i 0) ≡ false → all p (drop i l) ≡ false
+  all-stop h e = rw (drop-cons l i 0 h, e)
+
+  pub all-on : i < length l → p (getD l i 0) ≡ true → all p (drop (i + 1) l) ≡ all p (drop i l)
+  all-on h e = rw (drop-cons l i 0 h, e, add-one i)
+
+  pub all-end : length l ≤ i → all p (drop i l) ≡ true
+  all-end h = rw (drop-of-length-le l h)

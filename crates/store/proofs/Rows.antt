@@ -17,6 +17,10 @@ and-fails r h = ap (λ (t : Bool). t && r) h
 pub or-holds : {a : Bool} (r : Bool) → a ≡ true → (a || r) ≡ true
 or-holds r h = ap (λ (t : Bool). t || r) h
 
+pub or-last : (a : Bool) {r : Bool} → r ≡ true → (a || r) ≡ true
+or-last true h = refl
+or-last false h = h
+
 pub or-rest : {a : Bool} (r : Bool) → a ≡ false → (a || r) ≡ r
 or-rest r h = ap (λ (t : Bool). t || r) h
 

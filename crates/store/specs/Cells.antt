@@ -27,10 +27,6 @@ pub record Read (w : List ℕ) (c f m p : ℕ) : Type 0 where
   pub maxp : getD w 3 0 ≡ m
   pub state : getD w 4 0 ≡ p
 
--- whether byte i may stand in a serial of length n: allowed before it, zero from there on
-unfoldable pub byteFits : ℕ → ℕ → ℕ → Bool
-byteFits b i n = cond (ltb i n) (allowed b) (eqb 0 b)
-
 -- four bytes as a word, the first highest
 abbrev pub fourBytes : ℕ → ℕ → ℕ → ℕ → ℕ
 fourBytes a b c d = ((a * 256 + b) * 256 + c) * 256 + d

@@ -2,10 +2,11 @@
 ghost use mathlib.Core.Path.{_≡_};
 ghost use mathlib.Core.List.{[], _∷_};
 ghost use Prim.Native.Nat.{_≤_, _/_, _%_, _^_};
-ghost use Rattle.model.specs.Lists.{between};
+ghost use lib.Dec.{eqb};
+ghost use Rattle.model.specs.Lists.{between, all};
 ghost use Rattle.model.specs.Serial.{allowed, validSerial, validFault};
 ghost use Rattle.model.specs.Layout.{packed};
-ghost use Rattle.store.specs.Cells.{packedAll, unpackedAll, fourBytes, byteFits};
+ghost use Rattle.store.specs.Cells.{packedAll, unpackedAll, fourBytes};
 
 // A number from lo to hi.
 pub fn within(lo: u32, hi: u32, x: u32) -> bool
@@ -14,17 +15,18 @@ pub fn within(lo: u32, hi: u32, x: u32) -> bool
     if lo <= x { x <= hi } else { false }
 }
 
-// A digit, an upper-case letter or a hyphen.
-pub fn is_allowed(b: u32) -> bool
+// A digit, an upper-case letter or a hyphen. Letters are the most, so they are tested first.
+pub fn is_allowed(b: u8) -> bool
     ensures { λ r. ⌜ r ≡ allowed b ⌝ }
 {
-    if within(48, 57, b) {
+    let x = b as u32;
+    if within(65, 90, x) {
         return true;
     }
-    if within(65, 90, b) {
+    if within(48, 57, x) {
         return true;
     }
-    b == 45
+    x == 45
 }
 
 // A day, 1 to 65,535, and a code, 1 to 9,999.
@@ -37,18 +39,35 @@ pub fn valid_fault(day: u32, code: u32) -> bool
     within(1, 9999, code)
 }
 
-// Whether byte i may stand in a serial of length len: allowed before it, zero from there on.
-fn byte_fits(b: u8, i: usize, len: usize) -> bool
-    ensures { λ r. ⌜ r ≡ byteFits b i len ⌝ }
+// Whether all bytes are allowed.
+fn all_allowed(bytes: &[u8]) -> bool
+    ensures { λ r. ⌜ r ≡ all allowed (now (bytes .entry)) ⌝ }
 {
-    if i < len {
-        is_allowed(b as u32)
-    } else {
-        0 == b
+    let mut i: usize = 0;
+    while i < bytes.len() {
+        if !is_allowed(bytes[i]) {
+            return false;
+        }
+        i += 1;
     }
+    true
 }
 
-// Sixteen bytes and a length, as a serial travels.
+// Whether all bytes are zero.
+fn all_zero(bytes: &[u8]) -> bool
+    ensures { λ r. ⌜ r ≡ all (eqb 0) (now (bytes .entry)) ⌝ }
+{
+    let mut i: usize = 0;
+    while i < bytes.len() {
+        if bytes[i] != 0 {
+            return false;
+        }
+        i += 1;
+    }
+    true
+}
+
+// Sixteen bytes and a length, as a serial travels: allowed up to the length, zero from there on.
 pub fn valid_serial(serial: [u8; 16], len: usize) -> bool
     ensures { λ r. ⌜ r ≡ validSerial serial len ⌝ }
 {
@@ -58,14 +77,10 @@ pub fn valid_serial(serial: [u8; 16], len: usize) -> bool
     if 16 < len {
         return false;
     }
-    let mut i: usize = 0;
-    while i < 16 {
-        if !byte_fits(serial[i], i, len) {
-            return false;
-        }
-        i += 1;
+    if !all_allowed(&serial[..len]) {
+        return false;
     }
-    true
+    all_zero(&serial[len..])
 }
 
 // Four bytes as a word, the first highest.

@@ -6,7 +6,7 @@ use borrow.Author.Tests.{not-true, not-false}
 use denote.Ref.{now}
 use lib.ListN.{length, drop}
 use Rattle.model.specs.Lists.{between, all}
-use Rattle.job.proofs.Numbers.{all-stop, all-on, all-end}
+use Rattle.model.proofs.Lists.{all-stop, all-on, all-end}
 use Rattle.job.proofs.fields.all_digits.Statement.{statement}
 use Rattle.job.proofs.fields.all_digits.Tie as tie
 
