@@ -29,7 +29,7 @@ pub struct Turned {
 }
 
 // The room that a line is given for pairs: two words for each fault that a store can hold.
-const ROOM: usize = 4096;
+pub const ROOM: usize = 4096;
 
 // The plan of a line, by its kind: 12 for one that is not well formed.
 fn planned(words: &[u32], p: Parsed) -> Plan
