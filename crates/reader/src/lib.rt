@@ -6,7 +6,7 @@ ghost use Rattle.model.specs.Calls.{scratchNeed};
 ghost use Rattle.model.specs.Job.{job};
 ghost use Rattle.job.specs.Text.{Puts};
 ghost use Rattle.job.specs.Runs.{Did};
-ghost use Rattle.reader.specs.Depot.{opened, blank, nothing, closing, depotText, Ended, Writes};
+ghost use Rattle.reader.specs.Depot.{opened, wholeSize, blank, nothing, closing, depotText, Ended, Writes};
 use job::Done;
 use job::Ran;
 use job::Tally;
@@ -70,8 +70,8 @@ fn close(out: &mut [u8], at: usize, number: u32) -> usize
 
 // The job in the first 16,384 bytes of the output, and its closing line, which takes nine more.
 fn whole(input: &[u8], out: &mut [u8]) -> usize
-    requires { ⌜ length (now out) ≡ 16393 ⌝ }
-    ensures { λ r. ⌜ Writes (depotText (now (input .entry))) r (now (out .exit)) ⌝ }
+    requires { ⌜ length (now out) ≡ wholeSize ⌝ }
+    ensures { λ r. ⌜ Writes (depotText (now (input .entry))) (now (out .entry)) r (now (out .exit)) ⌝ }
 {
     let done = fresh_job(input, &mut out[..16384]);
     close(out, done.bytes as usize, done.number)
@@ -85,7 +85,7 @@ pub struct Text {
 
 // All that `depot` writes for an input.
 pub fn answered(input: &[u8]) -> Text
-    ensures { λ r. ⌜ Writes (depotText (now (input .entry))) (r .len) (r .bytes) ⌝ }
+    ensures { λ r. ⌜ Writes (depotText (now (input .entry))) (blank wholeSize) (r .len) (r .bytes) ⌝ }
 {
     let mut out = [0u8; 16393];
     let len = whole(input, &mut out);
