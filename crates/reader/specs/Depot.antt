@@ -11,10 +11,18 @@ use Rattle.model.specs.Calls.{scratchNeed}
 use Rattle.model.specs.Job.{decimal, Tally, Finished, job}
 use Rattle.job.specs.declared.Done.{Done}
 
--- C = 256 and F = 512, and 16,384 bytes of output
-unfoldable pub opened : List ℕ
-opened = encode (fresh 256 512)
+-- C and F of its store
+abbrev pub depotCards : ℕ
+depotCards = 256
 
+abbrev pub depotFaults : ℕ
+depotFaults = 512
+
+-- its words, fresh
+unfoldable pub opened : List ℕ
+opened = encode (fresh depotCards depotFaults)
+
+-- the bytes of output
 unfoldable pub outputSize : ℕ
 outputSize = 16384
 
