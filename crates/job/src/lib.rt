@@ -29,10 +29,11 @@ pub struct Ran {
     pub tally: Tally,
 }
 
-// The longest job and the scratch that it takes, in bytes.
+// The longest job, in bytes.
 const LONGEST: usize = 16384;
 
-const SCRATCH: usize = 384;
+// The bytes of scratch that a job takes: those of the store's checker.
+pub const SCRATCH: usize = 384;
 
 // The lines of a text on a store known to be sound, one turn a line, until one does not fit.
 fn each_line(words: &mut [u32], room: &mut [u32], text: &[u8], out: &mut [u8], tally: Tally) -> Ran
@@ -77,7 +78,7 @@ fn with_room(words: &mut [u32], text: &[u8], out: &mut [u8], tally: Tally) -> Ra
     requires { ⌜ (sound (now words) ≡ true) × (length (now text) ≤ mostText) ⌝ }
     ensures { λ r. ⌜ Ends (linesOn (now (words .entry)) (now (text .entry)) (now (out .entry)) (tallyOf tally)) (now (out .entry)) (r .done) (r .tally) (now (words .exit)) (now (out .exit)) ⌝ }
 {
-    let mut room = [0u32; 4096];
+    let mut room = [0u32; turn::ROOM];
     each_line(words, &mut room, text, out, tally)
 }
 

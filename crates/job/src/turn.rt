@@ -2,11 +2,12 @@
 // has no effect.
 ghost use mathlib.Core.Path.{_≡_};
 ghost use mathlib.Core.Bool.{true};
-ghost use Prim.Native.Nat.{_*_, _≤_};
+ghost use Prim.Native.Nat.{_+_, _*_, _≤_};
 ghost use lib.ListN.{length};
 ghost use Rattle.model.specs.Layout.{mostFaults, decode, encode, sound};
 ghost use Rattle.store.specs.Plans.{Plans};
 ghost use Rattle.job.specs.Counts.{tallyOf};
+ghost use Rattle.job.specs.Text.{Puts, AnswerLong, answerOf};
 ghost use Rattle.job.specs.Turns.{asked, Lists, turnOf, Turns};
 use super::fields;
 use super::fields::Parsed;
@@ -28,7 +29,7 @@ pub struct Turned {
 }
 
 // The room that a line is given for pairs: two words for each fault that a store can hold.
-const ROOM: usize = 4096;
+pub const ROOM: usize = 4096;
 
 // The plan of a line, by its kind: 12 for one that is not well formed.
 fn planned(words: &[u32], p: Parsed) -> Plan
@@ -90,6 +91,38 @@ fn made(words: &mut [u32], p: Parsed, plan: Plan)
     }
 }
 
+// How long the answer of this plan is, with its first `count` pairs in the room.
+fn answer_len(plan: Plan, count: u32, room: &[u32]) -> usize
+    requires { ⌜ 2 * count ≤ length (now room) ⌝ }
+    ensures { λ r. ⌜ AnswerLong (answerOf (plan .number) (plan .comparisons) (plan .scanned) (plan .faults) count (now (room .entry))) count r ⌝ }
+{
+    text::answer_len(
+        plan.number,
+        plan.comparisons,
+        plan.scanned,
+        plan.faults,
+        count,
+        room,
+    )
+}
+
+// Writes that answer from `at` on; the place behind it.
+fn put_answer(out: &mut [u8], at: usize, plan: Plan, count: u32, room: &[u32]) -> usize
+    requires { ⌜ (2 * count ≤ length (now room)) × (at + length (answerOf (plan .number) (plan .comparisons) (plan .scanned) (plan .faults) count (now room)) ≤ length (now out)) ⌝ }
+    ensures { λ r. ⌜ Puts (now (out .entry)) at (answerOf (plan .number) (plan .comparisons) (plan .scanned) (plan .faults) count (now (room .entry))) r (now (out .exit)) ⌝ }
+{
+    text::put_answer(
+        out,
+        at,
+        plan.number,
+        plan.comparisons,
+        plan.scanned,
+        plan.faults,
+        count,
+        room,
+    )
+}
+
 // One line, with its answer from `at` on. Where the answer does not fit, nothing changes but the room.
 pub fn turn(
     words: &mut [u32],
@@ -105,14 +138,7 @@ pub fn turn(
     let p = fields::parse(line);
     let plan = planned(words, p);
     let count = listed(words, p, plan, room);
-    let long = text::answer_len(
-        plan.number,
-        plan.comparisons,
-        plan.scanned,
-        plan.faults,
-        count,
-        room,
-    );
+    let long = answer_len(plan, count, room);
     if out.len() < at + long {
         return Turned {
             fits: false,
@@ -123,16 +149,7 @@ pub fn turn(
     let before = plans::buckets(words);
     made(words, p, plan);
     let after = plans::buckets(words);
-    let end = text::put_answer(
-        out,
-        at,
-        plan.number,
-        plan.comparisons,
-        plan.scanned,
-        plan.faults,
-        count,
-        room,
-    );
+    let end = put_answer(out, at, plan, count, room);
     Turned {
         fits: true,
         end,

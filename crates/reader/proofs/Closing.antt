@@ -10,7 +10,7 @@ use Rattle.rules.proofs.Tests.{eq?, lt?}
 use Rattle.model.specs.Job.{decimal}
 use Rattle.job.specs.Text.{marked, numbersOf}
 use Rattle.job.proofs.Decimals.{decimal-small, decimal-one, decimal-less}
-use Rattle.reader.specs.Depot.{closing}
+use Rattle.reader.specs.Depot.{closingSize, closing}
 
 pub closing-none : (n : ℕ) → n ≡ 0 → closing n ≡ []
 unfolding closing
@@ -27,7 +27,7 @@ two-digits : (n : ℕ) → n ≤ 99 → length (decimal n) ≤ 2
 two-digits n h =
     ⊎-elim (λ l. omega (arith, decimal-one n l)) (λ l. omega (arith, decimal-less n l (omega arith), decimal-one (n / 10) (omega arith))) (lt? n 10)
 
-pub closing-long : (n : ℕ) → n ≤ 99 → length (closing n) ≤ 9
+pub closing-long : (n : ℕ) → n ≤ 99 → length (closing n) ≤ closingSize
 unfolding closing
 closing-long n h =
     ⊎-elim (λ e. rw (eq-eqb n 0 e) (omega arith)) (λ e. rw (ne-eqb n 0 e) (omega (arith, length-append (decimal n) (32 ∷ 48 ∷ 32 ∷ 48 ∷ 32 ∷ 48 ∷ 10 ∷ []), two-digits n h))) (eq? n 0)

@@ -16,7 +16,7 @@ use Rattle.model.specs.Calls.{scratchNeed}
 use Rattle.model.specs.Job.{digits, decimal, Run, linesOf, lineOf, stepOf, answerText, runLines, started, mostText}
 use Rattle.model.proofs.Fresh.{fair-fresh, fresh-sound}
 use Rattle.model.proofs.Outcomes.{read-back}
-use Rattle.reader.specs.Depot.{opened, outputSize, blank, nothing, closing, depotText}
+use Rattle.reader.specs.Depot.{depotCards, depotFaults, opened, outputSize, blank, nothing, closing, depotText}
 use Rattle.reader.proofs.Opening.{limits}
 use Rattle.reader.proofs.Wholes.{linesText, textIn, whole-text}
 
@@ -31,11 +31,11 @@ out-long = length-replicate {A = ℕ} outputSize 0
 
 opened-sound : sound opened ≡ true
 unfolding opened
-opened-sound = fresh-sound 256 512 limits
+opened-sound = fresh-sound depotCards depotFaults limits
 
-opened-back : decode opened ≡ fresh 256 512
+opened-back : decode opened ≡ fresh depotCards depotFaults
 unfolding opened
-opened-back = read-back (fresh 256 512) (fair-fresh 256 512 limits)
+opened-back = read-back (fresh depotCards depotFaults) (fair-fresh depotCards depotFaults limits)
 
 pub depot-long : (input : List ℕ) → mostText < length input → depotText input ≡ 49 ∷ 51 ∷ 32 ∷ 48 ∷ 32 ∷ 48 ∷ 32 ∷ 48 ∷ 10 ∷ []
 unfolding depotText textIn closing decimal digits
@@ -45,7 +45,7 @@ depot-long input h =
 
 -- the lines of an input, run
 abbrev pub ran : List ℕ → Run
-ran input = runLines (linesOf input) outputSize (started (fresh 256 512) nothing)
+ran input = runLines (linesOf input) outputSize (started (fresh depotCards depotFaults) nothing)
 
 pub depot-lines : (input : List ℕ) → length input ≤ mostText → depotText input ≡ ran input .text ++ closing (ran input .number)
 unfolding depotText textIn linesText
@@ -63,7 +63,7 @@ run-ends (x ∷ xs) room r h =
 
 pub depot-closes : (input : List ℕ) → (closing (ran input .number) ≡ []) ⊎ (closing (ran input .number) ≡ 49 ∷ 48 ∷ 32 ∷ 48 ∷ 32 ∷ 48 ∷ 32 ∷ 48 ∷ 10 ∷ [])
 unfolding closing decimal digits
-depot-closes input = go (ran input .number) (run-ends (linesOf input) outputSize (started (fresh 256 512) nothing) refl)
+depot-closes input = go (ran input .number) (run-ends (linesOf input) outputSize (started (fresh depotCards depotFaults) nothing) refl)
   where
     go : (n : ℕ) → (n ≡ 0) ⊎ (n ≡ 10) → (closing n ≡ []) ⊎ (closing n ≡ 49 ∷ 48 ∷ 32 ∷ 48 ∷ 32 ∷ 48 ∷ 32 ∷ 48 ∷ 10 ∷ [])
     go n (inl e) = inl (rw e)

@@ -1,10 +1,8 @@
 -- One outcome only, gathered for every entry point: two programs that meet its contract give the same and leave the same, on every input.
 -- Each contract is a set of equations with the definitions, so two that meet it are equal to one thing.
-use mathlib.Core.Path.{_≡_, sym, ap, _∙_}
+use mathlib.Core.Path.{_≡_, sym, _∙_}
 use mathlib.Core.List.{List}
 use Prim.Native.Nat.{ℕ}
-use native.Mathlib.Omega.{arith}
-use lib.ListN.{length, take, length-take}
 use Rattle.rules.specs.Code.{codeOf}
 use Rattle.rules.specs.Table.{addressOf}
 use Rattle.model.specs.Calls.{openCall}
@@ -15,7 +13,7 @@ use Rattle.store.proofs.OneOutcome as Store
 use Rattle.job.specs.Sequences.{Left, Works}
 use Rattle.job.specs.declared.tally.Tally.{Tally}
 use Rattle.job.proofs.OneOutcome as Job
-use Rattle.reader.specs.Depot.{depotText, Writes}
+use Rattle.reader.specs.Depot.{wholeSize, blank, depotText, Writes}
 
 -- `reader_code` and `reader_address`
 pub one-code : (bytes : List ℕ) (a b : ℕ) → a ≡ codeOf bytes → b ≡ codeOf bytes → a ≡ b
@@ -36,10 +34,6 @@ one-call = Store.one-outcome
 pub one-job : (w scratch text out : List ℕ) (t : Tally) (a b : Left) → Works w scratch text out t a → Works w scratch text out t b → a ≡ b
 one-job = Job.one-outcome
 
--- `answered`: how many bytes are written, and which
-pub one-text : (input : List ℕ) (m n : ℕ) (a b : List ℕ) → Writes (depotText input) m a → Writes (depotText input) n b → (m ≡ n) × (take m a ≡ take n b)
-one-text input m n a b p q =
-    let e = p .text-is ∙ sym (q .text-is) in (
-      omega (arith, ap length e, length-take m a, length-take n b, p .within, q .within),
-      e,
-    )
+-- `answered`: how many bytes are written, and all that the array holds
+pub one-text : (input : List ℕ) (m n : ℕ) (a b : List ℕ) → Writes (depotText input) (blank wholeSize) m a → Writes (depotText input) (blank wholeSize) n b → (m ≡ n) × (a ≡ b)
+one-text input m n a b p q = (p .len-is ∙ sym (q .len-is), p .out-is ∙ sym (q .out-is))

@@ -1,21 +1,23 @@
--- The whole text of a job. Its number has at most two digits (`job-number`), its bytes stand within the output (`job-bytes`), and the text goes by the
--- output's length alone (`whole-same`). So the job in the front of an output, with its closing line behind it, writes what `depot` writes (`whole-writes`).
+-- The whole text of a job. Its number has at most two digits (`job-number`), its bytes stand within the output (`job-bytes`), the output keeps its length and
+-- what stands behind them (`job-length`, `job-rest`), and the text goes by the output's length alone (`whole-same`). So the job in the front of an output,
+-- with its closing line behind it, writes what `depot` writes (`whole-writes`), within that output (`writes-within`).
 use Prim.Native.Nat.{ℕ, _+_, _≤_}
-use mathlib.Core.Path.{_≡_, sym, ap, _∙_}
+use mathlib.Core.Path.{_≡_, refl, sym, ap, _∙_}
 use mathlib.Core.Bool.{true, cond}
 use mathlib.Core.List.{List, [], _∷_, _++_}
 use native.Mathlib.Omega.{arith}
 use lib.Dec.{ltb}
-use lib.ListN.{length, drop, length-append, length-replicate}
-use lib.Seq.{take-append-seam, take-append-le}
+use lib.ListN.{length, take, drop, length-append, length-drop, length-replicate, take-append-drop}
+use lib.Seq.{sets, length-take-le, take-append-seam, drop-append-seam, take-append-le, drop-append-le}
+use borrow.Author.Tests.{ltb-false}
 use Rattle.rules.proofs.Tests.{by-cases}
 use Rattle.model.specs.Layout.{decode, sound}
 use Rattle.model.specs.Calls.{scratchNeed, cleaned}
 use Rattle.model.specs.Job.{Run, linesOf, lineOf, stepOf, answerText, runLines, started, Tally, Finished, turnedAway, jobIf, mostText, job}
 use Rattle.job.specs.Text.{Puts}
 use Rattle.job.specs.declared.Done.{Done}
-use Rattle.job.proofs.Putting.{puts-length, put-front}
-use Rattle.reader.specs.Depot.{opened, outputSize, blank, nothing, closing, wholeText, depotText, Ended, Writes}
+use Rattle.job.proofs.Putting.{put-front, put-rest}
+use Rattle.reader.specs.Depot.{opened, outputSize, wholeSize, blank, nothing, closing, wholeText, depotText, Ended, Writes}
 use Rattle.reader.proofs.Closing.{closing-long}
 
 -- the job by its tests, whatever is to be shown of it
@@ -36,15 +38,34 @@ run-number (x ∷ xs) room r h =
     by-cases (ltb room (length (r .text) + length (answerText (lineOf x) (stepOf (r .store) (lineOf x)))))
     (λ e. rw e (omega arith)) (λ e. rw e (run-number xs room _ (omega arith)))
 
+-- the text of the lines never exceeds the room
+run-fits : (xs : List (List ℕ)) (room : ℕ) (r : Run) → length (r .text) ≤ room → length (runLines xs room r .text) ≤ room
+unfolding runLines
+run-fits [] room r h = h
+run-fits (x ∷ xs) room r h =
+    let answer = answerText (lineOf x) (stepOf (r .store) (lineOf x)) in
+    by-cases (ltb room (length (r .text) + length answer))
+    (λ e. rw e h) (λ e. rw e (run-fits xs room _ (omega (arith, ltb-false, length-append (r .text) answer))))
+
 module _ (w scratch text out : List ℕ) (t : Tally) where
   pub job-number : job w scratch text out t .number ≤ 13
   job-number =
       job-cases w scratch text out t (λ f. f .number ≤ 13) (omega arith) (omega arith) (omega arith) (run-number (linesOf text) (length out) _ (omega arith))
 
-  pub job-bytes : job w scratch text out t .bytes ≤ length (job w scratch text out t .out)
-  job-bytes =
+  pub job-bytes : job w scratch text out t .bytes ≤ length out
+  job-bytes = job-cases w scratch text out t (λ f. f .bytes ≤ length out) (omega arith) (omega arith) (omega arith) (run-fits (linesOf text) (length out) _ (omega arith))
+
+  pub job-rest : drop (job w scratch text out t .bytes) (job w scratch text out t .out) ≡ drop (job w scratch text out t .bytes) out
+  job-rest =
       let r = runLines (linesOf text) (length out) (started (decode w) t) in
-      job-cases w scratch text out t (λ f. f .bytes ≤ length (f .out)) (omega arith) (omega arith) (omega arith) (omega (arith, length-append (r .text) (drop (length (r .text)) out)))
+      job-cases w scratch text out t (λ f. drop (f .bytes) (f .out) ≡ drop (f .bytes) out) refl refl refl (drop-append-seam (r .text) (drop (length (r .text)) out))
+
+  pub job-length : length (job w scratch text out t .out) ≡ length out
+  job-length =
+      let r = runLines (linesOf text) (length out) (started (decode w) t) in
+      let h : length (r .text) ≤ length out = run-fits (linesOf text) (length out) (started (decode w) t) (omega arith) in
+      job-cases w scratch text out t (λ f. length (f .out) ≡ length out) refl refl refl
+      (omega (arith, length-append (r .text) (drop (length (r .text)) out), length-drop (length (r .text)) out))
 
 -- what is written by the output's length alone
 unfoldable pub linesText : Run → List ℕ
@@ -68,23 +89,54 @@ pub whole-same : (w scratch text : List ℕ) (t : Tally) (out out′ : List ℕ)
 whole-same w scratch text t out out′ e =
     whole-text w scratch text out t ∙ ap (λ (n : ℕ). textIn w scratch text n t) e ∙ sym (whole-text w scratch text out′ t)
 
+-- what is written lies within what it is written into
+pub writes-within : {text before : List ℕ} {r : ℕ} {out : List ℕ} → Writes text before r out → r ≤ length out
+writes-within {text} {before} w = omega (arith, ap length (w .out-is), length-append text (drop (length text) before))
+
+-- an output in two parts: the job's, and the room for the closing line
+abbrev front : List ℕ → List ℕ
+front out = take outputSize out
+
+abbrev behind : List ℕ → List ℕ
+behind out = drop outputSize out
+
 -- the job in the front of an output, and its closing line behind it
-module _ (input front rest : List ℕ) {done : Done} {after : List ℕ} (e : Ended (job opened (blank scratchNeed) input front nothing) done after) where
+module _ (input out : List ℕ) (l : length out ≡ wholeSize) {done : Done} {after : List ℕ} (e : Ended (job opened (blank scratchNeed) input (front out) nothing) done after) where
+  front-long : length (front out) ≡ outputSize
+  front-long = length-take-le outputSize out (omega arith)
+
+  bytes-front : done .bytes ≤ length (front out)
+  bytes-front = rw (e .bytes-are) (job-bytes opened (blank scratchNeed) input (front out) nothing)
+
   bytes-in : done .bytes ≤ length after
-  bytes-in = rw (e .bytes-are, e .out-is) (job-bytes opened (blank scratchNeed) input front nothing)
+  bytes-in = omega (arith, bytes-front, ap length (e .out-is), job-length opened (blank scratchNeed) input (front out) nothing)
 
-  pub whole-fits : 9 ≤ length rest → done .bytes + length (closing (done .number)) ≤ length (after ++ rest)
-  whole-fits h =
-      let n : done .number ≤ 13 = rw (e .number-is) (job-number opened (blank scratchNeed) input front nothing) in
-      omega (arith, bytes-in, closing-long (done .number) (omega arith), length-append after rest)
+  pub whole-fits : done .bytes + length (closing (done .number)) ≤ length (after ++ behind out)
+  whole-fits =
+      let n : done .number ≤ 13 = rw (e .number-is) (job-number opened (blank scratchNeed) input (front out) nothing) in
+      omega (arith, bytes-in, closing-long (done .number) (omega arith), length-append after (behind out), length-drop outputSize out)
 
-  pub whole-writes : length front ≡ outputSize → 9 ≤ length rest → {r : ℕ} {left : List ℕ} → Puts (after ++ rest) (done .bytes) (closing (done .number)) r left → Writes (depotText input) r left
+  -- up to its end stand the job's answers and the closing line, and behind it what stood there
+  whole-front : take (done .bytes) (after ++ behind out) ++ closing (done .number) ≡ depotText input
   unfolding depotText wholeText blank
-  whole-writes l h {r} {left} p =
+  whole-front =
+      rw (take-append-le (done .bytes) after (behind out) bytes-in, e .out-is, e .bytes-are, e .number-is)
+      (whole-same opened (blank scratchNeed) input nothing (front out) (blank outputSize) (front-long ∙ sym (length-replicate {A = ℕ} outputSize 0)))
+
+  whole-rest : drop (done .bytes) (after ++ behind out) ≡ drop (done .bytes) out
+  whole-rest =
+      let kept : drop (done .bytes) after ≡ drop (done .bytes) (front out) = rw (e .bytes-are, e .out-is) (job-rest opened (blank scratchNeed) input (front out) nothing) in
+      rw (drop-append-le (done .bytes) after (behind out) bytes-in, kept, ← (drop-append-le (done .bytes) (front out) (behind out) bytes-front), take-append-drop outputSize out)
+
+  pub whole-writes : {r : ℕ} {left : List ℕ} → Puts (after ++ behind out) (done .bytes) (closing (done .number)) r left → Writes (depotText input) out r left
+  whole-writes {r} {left} p =
+      let o = after ++ behind out in
       let k = closing (done .number) in
+      let n = done .bytes + length k in
+      let long : n ≡ length (depotText input) = omega (arith, ap length whole-front, length-append (take (done .bytes) o) k, length-take-le (done .bytes) o (omega (arith, whole-fits))) in
       record {
-        text-is =
-            rw (p .out-is, p .end-is, put-front (after ++ rest) k (done .bytes) (whole-fits h), take-append-le (done .bytes) after rest bytes-in, e .out-is, e .bytes-are, e .number-is)
-            (whole-same opened (blank scratchNeed) input nothing front (blank outputSize) (l ∙ sym (length-replicate {A = ℕ} outputSize 0)));
-        within = omega (arith, p .end-is, whole-fits h, puts-length k p);
+        out-is =
+            p .out-is ∙ sym (take-append-drop n (sets o (done .bytes) k))
+            ∙ rw (put-front o k (done .bytes) whole-fits, put-rest o out k (done .bytes) whole-fits whole-rest, whole-front, long);
+        len-is = p .end-is ∙ long;
       }

@@ -2,21 +2,36 @@
 use mathlib.Core.Path.{_≡_}
 use mathlib.Core.Bool.{cond}
 use mathlib.Core.List.{List, [], _∷_, _++_}
-use Prim.Native.Nat.{ℕ, _≤_}
+use Prim.Native.Nat.{ℕ, _+_}
 use lib.Dec.{eqb}
-use lib.ListN.{length, take, replicate}
+use lib.ListN.{length, take, drop, replicate}
 use Rattle.model.specs.Model.{fresh}
 use Rattle.model.specs.Layout.{encode}
 use Rattle.model.specs.Calls.{scratchNeed}
 use Rattle.model.specs.Job.{decimal, Tally, Finished, job}
 use Rattle.job.specs.declared.Done.{Done}
 
--- C = 256 and F = 512, and 16,384 bytes of output
-unfoldable pub opened : List ℕ
-opened = encode (fresh 256 512)
+-- C and F of its store
+abbrev pub depotCards : ℕ
+depotCards = 256
 
+abbrev pub depotFaults : ℕ
+depotFaults = 512
+
+-- its words, fresh
+unfoldable pub opened : List ℕ
+opened = encode (fresh depotCards depotFaults)
+
+-- the bytes of output
 unfoldable pub outputSize : ℕ
 outputSize = 16384
+
+-- the longest closing line, and the output with room for it behind
+abbrev pub closingSize : ℕ
+closingSize = 9
+
+abbrev pub wholeSize : ℕ
+wholeSize = outputSize + closingSize
 
 unfoldable pub blank : ℕ → List ℕ
 blank n = replicate n 0
@@ -41,7 +56,7 @@ pub record Ended (f : Finished) (done : Done) (out : List ℕ) : Type 0 where
   pub bytes-are : done .bytes ≡ f .bytes
   pub out-is : out ≡ f .out
 
--- the first r bytes of the output are a text
-pub record Writes (text : List ℕ) (r : ℕ) (out : List ℕ) : Type 0 where
-  pub text-is : take r out ≡ text
-  pub within : r ≤ length out
+-- a text stands at the front of what was there before, the rest as it was; r is its length
+pub record Writes (text before : List ℕ) (r : ℕ) (out : List ℕ) : Type 0 where
+  pub out-is : out ≡ text ++ drop (length text) before
+  pub len-is : r ≡ length text

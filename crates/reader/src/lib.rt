@@ -6,24 +6,36 @@ ghost use Rattle.model.specs.Calls.{scratchNeed};
 ghost use Rattle.model.specs.Job.{job};
 ghost use Rattle.job.specs.Text.{Puts};
 ghost use Rattle.job.specs.Runs.{Did};
-ghost use Rattle.reader.specs.Depot.{opened, blank, nothing, closing, depotText, Ended, Writes};
+ghost use Rattle.reader.specs.Depot.{opened, wholeSize, blank, nothing, closing, depotText, Ended, Writes};
 use job::Done;
 use job::Ran;
 use job::Tally;
 use job::text;
 
-// The limits of the store.
+// The limits of the store, C and F.
 const CARDS: u32 = 256;
 
 const FAULTS: u32 = 512;
 
+// The words of a store with these limits: 288 + 9 C + 3 F.
+const WORDS: usize = 288 + 9 * CARDS as usize + 3 * FAULTS as usize;
+
+// The bytes of the output that the job is lent.
+const OUTPUT: usize = 16384;
+
+// The bytes of the longest closing line: a number of two digits, three zeros with a space before each, LF.
+const CLOSING: usize = 9;
+
+// The most that is written.
+const WHOLE: usize = OUTPUT + CLOSING;
+
 const LF: u8 = 10;
 
-// A fresh store: 288 + 9 C + 3 F words.
-fn fresh() -> [u32; 4128]
+// A fresh store.
+fn fresh() -> [u32; WORDS]
     ensures { λ r. ⌜ r ≡ opened ⌝ }
 {
-    let mut words = [0u32; 4128];
+    let mut words = [0u32; WORDS];
     store::open(&mut words, CARDS, FAULTS);
     words
 }
@@ -42,7 +54,7 @@ fn fresh_job(input: &[u8], out: &mut [u8]) -> Done
     ensures { λ r. ⌜ Ended (job opened (blank scratchNeed) (now (input .entry)) (now (out .entry)) nothing) r (now (out .exit)) ⌝ }
 {
     let mut words = fresh();
-    let mut scratch = [0u8; 384];
+    let mut scratch = [0u8; job::SCRATCH];
     let none = Tally {
         entries: 0,
         withdrawals: 0,
@@ -68,26 +80,26 @@ fn close(out: &mut [u8], at: usize, number: u32) -> usize
     text::put_byte(out, end, LF)
 }
 
-// The job in the first 16,384 bytes of the output, and its closing line, which takes nine more.
+// The job in the front of the output, and its closing line behind it.
 fn whole(input: &[u8], out: &mut [u8]) -> usize
-    requires { ⌜ length (now out) ≡ 16393 ⌝ }
-    ensures { λ r. ⌜ Writes (depotText (now (input .entry))) r (now (out .exit)) ⌝ }
+    requires { ⌜ length (now out) ≡ wholeSize ⌝ }
+    ensures { λ r. ⌜ Writes (depotText (now (input .entry))) (now (out .entry)) r (now (out .exit)) ⌝ }
 {
-    let done = fresh_job(input, &mut out[..16384]);
+    let done = fresh_job(input, &mut out[..OUTPUT]);
     close(out, done.bytes as usize, done.number)
 }
 
-// A text of at most 16,393 bytes.
+// A text at the front of an array, and its length.
 pub struct Text {
-    pub bytes: [u8; 16393],
+    pub bytes: [u8; WHOLE],
     pub len: usize,
 }
 
 // All that `depot` writes for an input.
 pub fn answered(input: &[u8]) -> Text
-    ensures { λ r. ⌜ Writes (depotText (now (input .entry))) (r .len) (r .bytes) ⌝ }
+    ensures { λ r. ⌜ Writes (depotText (now (input .entry))) (blank wholeSize) (r .len) (r .bytes) ⌝ }
 {
-    let mut out = [0u8; 16393];
+    let mut out = [0u8; WHOLE];
     let len = whole(input, &mut out);
     Text { bytes: out, len }
 }

@@ -2,11 +2,15 @@
 use mathlib.Core.Path.{sym}
 use borrow.Author.Needs.{needs}
 use lib.Seq.{length-take-le}
+use Rattle.reader.proofs.Wholes.{writes-within}
 use Rattle.depot.proofs.main.Statement.{statement}
 use Rattle.depot.proofs.main.Tie as tie
 
+array-share-prefix-bytes : tie.Need-array-share-prefix-bytes
+array-share-prefix-bytes c = writes-within (c .before .answered .ensures)
+
 slice-aggregate-write-all : tie.Need-slice-aggregate-write-all
-slice-aggregate-write-all c = let a = c .before .before .answered in sym (length-take-le (a .result .len) (a .result .bytes) (a .ensures .within))
+slice-aggregate-write-all c = let a = c .before .before .answered in sym (length-take-le (a .result .len) (a .result .bytes) (writes-within (a .ensures)))
 
 pub main-spec : {M : Type 1} → statement M
 main-spec =
@@ -17,7 +21,7 @@ main-spec =
     (λ c. search needs)
     (λ c. search needs)
     (λ c κs. search needs)
-    (λ c. search needs)
+    array-share-prefix-bytes
     slice-aggregate-write-all
     (λ c κs. search needs)
     (λ c. search needs))

@@ -1,14 +1,17 @@
--- `reader::fresh` meets its contract: Open accepts these limits for 4,128 words, whatever they hold.
+-- `reader::fresh` meets its contract: Open accepts these limits for so many words, whatever they hold.
 use mathlib.Core.Path.{_∙_}
 use Prim.Native.Nat.{ℕ}
 use lib.ListN.{length-replicate}
 use borrow.Author.Needs.{needs}
+use Rattle.model.specs.Layout.{cardsAt, faultsAt, lengthFor}
+use Rattle.reader.specs.Depot.{depotCards, depotFaults}
 use Rattle.reader.proofs.Opening.{opens-fresh}
 use Rattle.reader.proofs.fresh.Statement.{statement}
 use Rattle.reader.proofs.fresh.Tie as tie
 
 returns : tie.Need-returns
-returns c = c .before .«open» .ensures .words-are ∙ opens-fresh _ (length-replicate {A = ℕ} 4128 0)
+unfolding lengthFor faultsAt cardsAt
+returns c = c .before .«open» .ensures .words-are ∙ opens-fresh _ (length-replicate {A = ℕ} (lengthFor depotCards depotFaults) 0)
 
 pub fresh-spec : {M : Type 1} → statement M
 fresh-spec = tie.close (tie.spec (λ c. search needs) (λ c κs. search needs) returns)

@@ -6,7 +6,6 @@ use mathlib.Core.List.{List}
 use Prim.Native.Nat.{ℕ, _+_, _*_, _≤_}
 use native.Mathlib.Omega.{arith}
 use borrow.Author.Needs.{needs}
-use lib.ListN.{length}
 use Rattle.model.specs.Layout.{encode, decode, sound}
 use Rattle.model.specs.Calls.{Step}
 use Rattle.model.specs.Job.{lineOf}
@@ -56,7 +55,7 @@ put-answer-requires : tie.Need-put-answer-requires
 put-answer-requires c κs =
     let a = chosen (c .before .before .before .before .before .before) in (
       omega (arith, listed a .listed .ensures .few, listed a .listed .kept .1 .1 .1 .0, start a .pre .1),
-      subst (λ (n : ℕ). start a .args .at + n ≤ length (start a .args .out .now)) (a .answer-len .ensures .is) (c .before .before .before .before .before .before .before .before .before .before .if1 .left),
+      rw (← (a .answer-len .ensures .is)) (c .before .before .before .before .before .before .before .before .before .before .if1 .left),
     )
 
 returns-2 : tie.Need-returns-2
