@@ -8,18 +8,21 @@ use mathlib.Core.List.{List, []}
 use mathlib.Core.Logic.{_⊎_, inl, inr, ⊎-elim}
 use native.Mathlib.Omega.{arith}
 use lib.Dec.{eqb}
-use lib.ListN.{length, take, length-replicate}
+use lib.ListN.{length, take}
 use borrow.Author.Tests.{eqb-true, ne-eqb}
 use Rattle.rules.proofs.Tests.{by-cases}
 use Rattle.model.specs.Serial.{validSerial}
 use Rattle.model.specs.Model.{Store, historyIn}
 use Rattle.model.specs.Layout.{mostFaults, encode, decode, sound}
 use Rattle.model.specs.Calls.{Step, refused, stays, written, enterStep, fileStep, showStep, withdrawStep}
+use Rattle.model.specs.Runs.{Act}
 use Rattle.model.specs.Job.{enough, pairText}
 use Rattle.model.proofs.Fair.{Good}
 use Rattle.model.proofs.Look.{look}
 use Rattle.model.proofs.Cases.{enter-cases, file-cases, show-cases, withdraw-cases}
 use Rattle.model.proofs.Sound.{sound-good}
+use Rattle.model.proofs.Jobs.{enough-long}
+use Rattle.model.proofs.Refused.{refused-act}
 use Rattle.store.specs.Plans.{Plans, fileWith, Ready, Follows, Holds, Paired}
 use Rattle.store.specs.declared.plans.Plan.{Plan}
 use Rattle.job.specs.Turns.{asked, listedBy, Lists}
@@ -47,11 +50,6 @@ module _ (s : Store) (p : Parsed) where
   pub asked-bad : (p .kind ≡ 1 → ⊥) → (p .kind ≡ 2 → ⊥) → (p .kind ≡ 3 → ⊥) → (p .kind ≡ 4 → ⊥) → asked s p ≡ stays (refused 12) s []
   unfolding asked
   asked-bad a b c d = rw (ne-eqb (p .kind) 1 a, ne-eqb (p .kind) 2 b, ne-eqb (p .kind) 3 c, ne-eqb (p .kind) 4 d)
-
--- the room that the model gives a line
-pub enough-long : length enough ≡ 2 * mostFaults
-unfolding enough
-enough-long = length-replicate {A = ℕ} (2 * mostFaults) 0
 
 -- lines that list no pair
 
@@ -132,6 +130,9 @@ asked-cases s p P enter withdraw file show bad =
     (λ e. rw e (by-cases (eqb (p .kind) 4) (λ e. rw e show) (λ e. rw e bad)))))))
 
 module _ (w : List ℕ) (ok : sound w ≡ true) (p : Parsed) where
+  g : Good (decode w)
+  g = sound-good w ok .0
+
   abbrev Stays : Step → Type 0
   Stays r = (r .answer .number ≡ 0 → ⊥) → r .store ≡ decode w
 
@@ -144,16 +145,16 @@ module _ (w : List ℕ) (ok : sound w ≡ true) (p : Parsed) where
       go : Stays (asked (decode w) p)
       go =
           asked-cases (decode w) p Stays
-          (λ k. enter-cases (decode w) (sound-good w ok .0) (p .serial) (p .len) Stays (λ v n. refl) (λ v l n. refl) (λ v l f n. refl) (λ v l f n. absurd (n refl)))
-          (λ k. withdraw-cases (decode w) (sound-good w ok .0) (p .serial) (p .len) Stays enough (λ v n. refl) (λ v l n. refl) (λ v l f n. refl) (λ v l f n. absurd (n refl)))
-          (λ k. file-cases (decode w) (sound-good w ok .0) (p .serial) (p .len) Stays (p .day) (p .code) (λ v n. refl) (λ v u n. refl) (λ v u l n. refl) (λ v u l f n. refl) (λ v u l f n. absurd (n refl)))
-          (show-cases (decode w) (sound-good w ok .0) (p .serial) (p .len) Stays enough (λ v n. refl) (λ v l n. refl) (λ v l f n. refl) (λ v l f n. refl))
+          (λ k n. refused-act (decode w) g (Act.enter (p .serial) (p .len)) n .0)
+          (λ k n. refused-act (decode w) g (Act.withdraw (p .serial) (p .len) enough) n .0)
+          (λ k n. refused-act (decode w) g (Act.file (p .serial) (p .len) (p .day) (p .code)) n .0)
+          (λ n. refused-act (decode w) g (Act.show (p .serial) (p .len) enough) n .0)
           (λ n. refl)
 
   pub made-none : (p .kind ≡ 1 → ⊥) → (p .kind ≡ 2 → ⊥) → (p .kind ≡ 3 → ⊥) → w ≡ encode (asked (decode w) p .store)
   made-none a b c =
       words-stay (asked-cases (decode w) p (λ (r : Step). r .store ≡ decode w) (λ k. absurd (a k)) (λ k. absurd (b k)) (λ k. absurd (c k))
-      (show-cases (decode w) (sound-good w ok .0) (p .serial) (p .len) (λ (r : Step). r .store ≡ decode w) enough (λ v. refl) (λ v l. refl) (λ v l f. refl) (λ v l f. refl)) refl)
+      (show-cases (decode w) g (p .serial) (p .len) (λ (r : Step). r .store ≡ decode w) enough (λ v. refl) (λ v l. refl) (λ v l f. refl) (λ v l f. refl)) refl)
 
 -- one that goes ahead is ready for its change, and what that leaves is what the line leaves
 module _ (s : Store) (p : Parsed) {r : Plan} (plan : Plans (asked s p .answer) s (p .serial) (p .len) r) where

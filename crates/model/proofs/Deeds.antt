@@ -29,7 +29,7 @@ run-append : (w : List ℕ) (cs ds : List Call) → run w (cs ++ ds) ≡ run (ru
 run-append w [] ds = refl
 run-append w (c ∷ cs) ds = run-append (wordsAfter w c) cs ds
 
-tidy-long : scratchNeed ≤ length tidy
+pub tidy-long : scratchNeed ≤ length tidy
 unfolding tidy
 tidy-long = omega (arith, length-replicate {A = ℕ} scratchNeed 0)
 
@@ -119,6 +119,14 @@ lines-run (x ∷ xs) w ok room r e =
     (record { done = 0; lines = omega arith; store = e; text = sym (append-nil (r .text)) })
     (one-more w ok r e x xs (runLines xs room (after r x))
     (lines-run xs (run w (callsBy x)) (sound-run w ok (callsBy x)) room (after r x) (same-store w ok r e x))))
+
+-- so the words of the store that the lines leave are read back as that store
+pub lines-store : (w : List ℕ) → sound w ≡ true → (xs : List (List ℕ)) (room : ℕ) (t : Tally)
+    → let r = runLines xs room (started (decode w) t) in decode (encode (r .store)) ≡ r .store
+lines-store w ok xs room t =
+    let q = lines-run xs w ok room (started (decode w) t) refl in
+    let cs = callsOf (take (q .done) xs) in
+    ap (λ (s : Store). decode (encode s)) (q .store) ∙ ap decode (sound-good (run w cs) (sound-run w ok cs) .1) ∙ sym (q .store)
 
 -- a job on the words w that ended so
 pub record JobCalls (w text out : List ℕ) (j : Finished) : Type 0 where

@@ -33,7 +33,10 @@ pub mod Demand3
 pub mod Demand2
 pub mod Outcomes
 pub mod Demands
+pub mod Counts
 pub mod Deeds
+pub mod Jobs
+pub mod Refused
 -- What each change writes
 pub mod Whole
 pub mod Segments

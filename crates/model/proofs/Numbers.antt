@@ -152,14 +152,17 @@ module _ (s : Store) (bytes : List ℕ) (n : ℕ) (room : List ℕ) where
   pub withdraw-numbers : Good s → PairsNumbers s bytes n room (withdrawStep s bytes n room .answer .number)
   withdraw-numbers g = withdraw-cases s g bytes n (λ r. PairsNumbers s bytes n room (r .answer .number)) room invalid missing small done
 
--- no act on a good store gives 3 or 11, which stand for its words and its scratch
-pub act-numbers : (s : Store) → Good s → (a : Act) → (perform s a .answer .number ≡ 3 → ⊥) × (perform s a .answer .number ≡ 11 → ⊥)
+-- an act's own number is none of 3, 11 and 12, which stand for the words, the scratch and the form of a line
+abbrev pub Own : ℕ → Type 0
+Own k = (k ≡ 3 → ⊥) × (k ≡ 11 → ⊥) × (k ≡ 12 → ⊥)
+
+pub act-numbers : (s : Store) → Good s → (a : Act) → Own (perform s a .answer .number)
 act-numbers s g (enter bytes n) =
-    enter-cases s g bytes n (λ r. (r .answer .number ≡ 3 → ⊥) × (r .answer .number ≡ 11 → ⊥)) (λ v. omega arith) (λ v l. omega arith) (λ v l f. omega arith) (λ v l f. omega arith)
+    enter-cases s g bytes n (λ r. Own (r .answer .number)) (λ v. omega arith) (λ v l. omega arith) (λ v l f. omega arith) (λ v l f. omega arith)
 act-numbers s g (file bytes n day code) =
-    file-cases s g bytes n (λ r. (r .answer .number ≡ 3 → ⊥) × (r .answer .number ≡ 11 → ⊥)) day code
+    file-cases s g bytes n (λ r. Own (r .answer .number)) day code
     (λ v. omega arith) (λ v w. omega arith) (λ v w l. omega arith) (λ v w l f. omega arith) (λ v w l f. omega arith)
 act-numbers s g (show bytes n room) =
-    show-cases s g bytes n (λ r. (r .answer .number ≡ 3 → ⊥) × (r .answer .number ≡ 11 → ⊥)) room (λ v. omega arith) (λ v l. omega arith) (λ v l f. omega arith) (λ v l f. omega arith)
+    show-cases s g bytes n (λ r. Own (r .answer .number)) room (λ v. omega arith) (λ v l. omega arith) (λ v l f. omega arith) (λ v l f. omega arith)
 act-numbers s g (withdraw bytes n room) =
-    withdraw-cases s g bytes n (λ r. (r .answer .number ≡ 3 → ⊥) × (r .answer .number ≡ 11 → ⊥)) room (λ v. omega arith) (λ v l. omega arith) (λ v l f. omega arith) (λ v l f. omega arith)
+    withdraw-cases s g bytes n (λ r. Own (r .answer .number)) room (λ v. omega arith) (λ v l. omega arith) (λ v l f. omega arith) (λ v l f. omega arith)

@@ -1,21 +1,20 @@
 -- What `depot` writes, told without the buffers: an input over 16,384 bytes gives `13 0 0 0` alone (`depot-long`); any other gives the answers of its lines on
 -- a fresh store with 16,384 bytes of output, and behind them nothing or `10 0 0 0` (`depot-lines`, `depot-closes`).
-use Prim.Native.Nat.{ℕ, _+_, _≤_, _<_}
+use Prim.Native.Nat.{ℕ, _≤_, _<_}
 use mathlib.Core.Path.{_≡_, refl, _∙_}
 use mathlib.Core.Bool.{true}
 use mathlib.Core.Logic.{_⊎_, inl, inr}
 use mathlib.Core.List.{List, [], _∷_, _++_}
 use native.Mathlib.Omega.{arith}
-use lib.Dec.{ltb}
 use lib.ListN.{length, length-replicate}
 use borrow.Author.Tests.{lt-ltb, le-ltb}
-use Rattle.rules.proofs.Tests.{by-cases}
 use Rattle.model.specs.Model.{fresh}
 use Rattle.model.specs.Layout.{decode, sound}
 use Rattle.model.specs.Calls.{scratchNeed}
-use Rattle.model.specs.Job.{digits, decimal, Run, linesOf, lineOf, stepOf, answerText, runLines, started, mostText}
+use Rattle.model.specs.Job.{digits, decimal, Run, linesOf, runLines, started, mostText}
 use Rattle.model.proofs.Fresh.{fair-fresh, fresh-sound}
 use Rattle.model.proofs.Outcomes.{read-back}
+use Rattle.model.proofs.Jobs.{AllAnswered, Stopped, lines-end}
 use Rattle.reader.specs.Depot.{depotCards, depotFaults, opened, outputSize, blank, nothing, closing, depotText}
 use Rattle.reader.proofs.Opening.{limits}
 use Rattle.reader.proofs.Wholes.{linesText, textIn, whole-text}
@@ -53,18 +52,11 @@ depot-lines input h =
     whole-text opened (blank scratchNeed) input (blank outputSize) nothing
     ∙ rw (le-ltb (length (blank scratchNeed)) scratchNeed scratch-long, le-ltb mostText (length input) h, opened-sound, opened-back, out-long)
 
--- the lines end with 0 or stop with 10
-run-ends : (xs : List (List ℕ)) (room : ℕ) (r : Run) → r .number ≡ 0 → (runLines xs room r .number ≡ 0) ⊎ (runLines xs room r .number ≡ 10)
-unfolding runLines
-run-ends [] room r h = inl h
-run-ends (x ∷ xs) room r h =
-    by-cases (ltb room (length (r .text) + length (answerText (lineOf x) (stepOf (r .store) (lineOf x)))))
-    (λ e. rw e (inr refl)) (λ e. rw e (run-ends xs room _ refl))
-
 pub depot-closes : (input : List ℕ) → (closing (ran input .number) ≡ []) ⊎ (closing (ran input .number) ≡ 49 ∷ 48 ∷ 32 ∷ 48 ∷ 32 ∷ 48 ∷ 32 ∷ 48 ∷ 10 ∷ [])
 unfolding closing decimal digits
-depot-closes input = go (ran input .number) (run-ends (linesOf input) outputSize (started (fresh depotCards depotFaults) nothing) refl)
+depot-closes input = go (lines-end (linesOf input) outputSize (started (fresh depotCards depotFaults) nothing) refl)
   where
-    go : (n : ℕ) → (n ≡ 0) ⊎ (n ≡ 10) → (closing n ≡ []) ⊎ (closing n ≡ 49 ∷ 48 ∷ 32 ∷ 48 ∷ 32 ∷ 48 ∷ 32 ∷ 48 ∷ 10 ∷ [])
-    go n (inl e) = inl (rw e)
-    go n (inr e) = inr (rw e)
+    go : AllAnswered (linesOf input) (started (fresh depotCards depotFaults) nothing) (ran input) ⊎ Stopped (linesOf input) outputSize (started (fresh depotCards depotFaults) nothing) (ran input)
+        → (closing (ran input .number) ≡ []) ⊎ (closing (ran input .number) ≡ 49 ∷ 48 ∷ 32 ∷ 48 ∷ 32 ∷ 48 ∷ 32 ∷ 48 ∷ 10 ∷ [])
+    go (inl a) = inl (rw (a .number))
+    go (inr s) = inr (rw (s .number))

@@ -4,68 +4,43 @@
 use Prim.Native.Nat.{ℕ, _+_, _≤_}
 use mathlib.Core.Path.{_≡_, refl, sym, ap, _∙_}
 use mathlib.Core.Bool.{true, cond}
-use mathlib.Core.List.{List, [], _∷_, _++_}
+use mathlib.Core.Logic.{⊎-elim}
+use mathlib.Core.List.{List, _++_}
 use native.Mathlib.Omega.{arith}
 use lib.Dec.{ltb}
 use lib.ListN.{length, take, drop, length-append, length-drop, length-replicate, take-append-drop}
 use lib.Seq.{sets, length-take-le, take-append-seam, drop-append-seam, take-append-le, drop-append-le}
-use borrow.Author.Tests.{ltb-false}
 use Rattle.rules.proofs.Tests.{by-cases}
 use Rattle.model.specs.Layout.{decode, sound}
-use Rattle.model.specs.Calls.{scratchNeed, cleaned}
-use Rattle.model.specs.Job.{Run, linesOf, lineOf, stepOf, answerText, runLines, started, Tally, Finished, turnedAway, jobIf, mostText, job}
+use Rattle.model.specs.Calls.{scratchNeed}
+use Rattle.model.specs.Job.{Run, linesOf, runLines, started, Tally, mostText, job}
+use Rattle.model.proofs.Jobs.{job-cases, lines-end, lines-fit}
 use Rattle.job.specs.Text.{Puts}
 use Rattle.job.specs.declared.Done.{Done}
 use Rattle.job.proofs.Putting.{put-front, put-rest}
 use Rattle.reader.specs.Depot.{opened, outputSize, wholeSize, blank, nothing, closing, wholeText, depotText, Ended, Writes}
 use Rattle.reader.proofs.Closing.{closing-long}
 
--- the job by its tests, whatever is to be shown of it
-module _ (w scratch text out : List ℕ) (t : Tally) (P : Finished → Type 0) where
-  job-cases :
-      P (turnedAway 11 w out scratch t) → P (turnedAway 13 w out (cleaned scratch) t) → P (turnedAway 3 w out (cleaned scratch) t)
-      → P (jobIf true w scratch text out t) → P (job w scratch text out t)
-  unfolding job
-  job-cases short long unsound lines =
-      by-cases (ltb (length scratch) scratchNeed) (λ e. rw e short)
-      (λ e. rw e (by-cases (ltb mostText (length text)) (λ e. rw e long)
-      (λ e. rw e (by-cases (sound w) (λ e. rw e lines) (λ e. rw e unsound)))))
-
-run-number : (xs : List (List ℕ)) (room : ℕ) (r : Run) → r .number ≤ 13 → runLines xs room r .number ≤ 13
-unfolding runLines
-run-number [] room r h = h
-run-number (x ∷ xs) room r h =
-    by-cases (ltb room (length (r .text) + length (answerText (lineOf x) (stepOf (r .store) (lineOf x)))))
-    (λ e. rw e (omega arith)) (λ e. rw e (run-number xs room _ (omega arith)))
-
--- the text of the lines never exceeds the room
-run-fits : (xs : List (List ℕ)) (room : ℕ) (r : Run) → length (r .text) ≤ room → length (runLines xs room r .text) ≤ room
-unfolding runLines
-run-fits [] room r h = h
-run-fits (x ∷ xs) room r h =
-    let answer = answerText (lineOf x) (stepOf (r .store) (lineOf x)) in
-    by-cases (ltb room (length (r .text) + length answer))
-    (λ e. rw e h) (λ e. rw e (run-fits xs room _ (omega (arith, ltb-false, length-append (r .text) answer))))
-
 module _ (w scratch text out : List ℕ) (t : Tally) where
   pub job-number : job w scratch text out t .number ≤ 13
   job-number =
-      job-cases w scratch text out t (λ f. f .number ≤ 13) (omega arith) (omega arith) (omega arith) (run-number (linesOf text) (length out) _ (omega arith))
+      job-cases w scratch text out t (λ f. f .number ≤ 13) (λ a. omega arith) (λ a b. omega arith) (λ a b c. omega arith)
+      (λ a b c. ⊎-elim (λ e. omega (arith, e .number)) (λ s. omega (arith, s .number)) (lines-end (linesOf text) (length out) (started (decode w) t) refl))
 
   pub job-bytes : job w scratch text out t .bytes ≤ length out
-  job-bytes = job-cases w scratch text out t (λ f. f .bytes ≤ length out) (omega arith) (omega arith) (omega arith) (run-fits (linesOf text) (length out) _ (omega arith))
+  job-bytes = job-cases w scratch text out t (λ f. f .bytes ≤ length out) (λ a. omega arith) (λ a b. omega arith) (λ a b c. omega arith) (λ a b c. lines-fit (linesOf text) (length out) _ (omega arith))
 
   pub job-rest : drop (job w scratch text out t .bytes) (job w scratch text out t .out) ≡ drop (job w scratch text out t .bytes) out
   job-rest =
       let r = runLines (linesOf text) (length out) (started (decode w) t) in
-      job-cases w scratch text out t (λ f. drop (f .bytes) (f .out) ≡ drop (f .bytes) out) refl refl refl (drop-append-seam (r .text) (drop (length (r .text)) out))
+      job-cases w scratch text out t (λ f. drop (f .bytes) (f .out) ≡ drop (f .bytes) out) (λ a. refl) (λ a b. refl) (λ a b c. refl) (λ a b c. drop-append-seam (r .text) (drop (length (r .text)) out))
 
   pub job-length : length (job w scratch text out t .out) ≡ length out
   job-length =
       let r = runLines (linesOf text) (length out) (started (decode w) t) in
-      let h : length (r .text) ≤ length out = run-fits (linesOf text) (length out) (started (decode w) t) (omega arith) in
-      job-cases w scratch text out t (λ f. length (f .out) ≡ length out) refl refl refl
-      (omega (arith, length-append (r .text) (drop (length (r .text)) out), length-drop (length (r .text)) out))
+      let h : length (r .text) ≤ length out = lines-fit (linesOf text) (length out) (started (decode w) t) (omega arith) in
+      job-cases w scratch text out t (λ f. length (f .out) ≡ length out) (λ a. refl) (λ a b. refl) (λ a b c. refl)
+      (λ a b c. omega (arith, length-append (r .text) (drop (length (r .text)) out), length-drop (length (r .text)) out))
 
 -- what is written by the output's length alone
 unfoldable pub linesText : Run → List ℕ

@@ -28,10 +28,11 @@ pub mod ClearLaws
 pub mod SearchLaws
 pub mod StoredLaws
 pub mod FindLaws
--- What the contracts admit
+pub mod ShowLaws
+-- What the contracts admit, and what they do not
 pub mod OneOutcome
 pub mod ProgramDemands
-pub mod ShowLaws
+pub mod Shams
 -- The plans of calls, the changes that they make, and the calls
 pub mod PlanLaws
 pub mod MakeLaws

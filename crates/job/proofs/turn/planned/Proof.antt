@@ -2,7 +2,8 @@
 use borrow.Author.Needs.{needs}
 use mathlib.Core.Path.{refl}
 use native.Mathlib.Omega.{arith}
-use Rattle.job.proofs.Asking.{asked-enter, asked-withdraw, asked-file, asked-show, asked-bad, enough-long}
+use Rattle.model.proofs.Jobs.{enough-long}
+use Rattle.job.proofs.Asking.{asked-enter, asked-withdraw, asked-file, asked-show, asked-bad}
 use Rattle.model.specs.Layout.{decode}
 use Rattle.model.specs.Job.{enough}
 use Rattle.job.proofs.turn.planned.Statement.{statement}

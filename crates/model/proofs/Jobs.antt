@@ -1,0 +1,188 @@
+-- The job by its numbers. Its tests come one after the other (`job-cases`); its lines are all answered, or stop before one whose answer exceeds the
+-- output left (`lines-end`). So each number of a job is given exactly when the rules say (`job-numbers`). A line is answered by 12 exactly where
+-- its form is bad, and by 10 never, since the room it is given has two words for each fault that a store can hold (`line-numbers`).
+use Prim.Native.Nat.{ℕ, zero, suc, _+_, _*_, _≤_, _<_}
+use mathlib.Core.Path.{_≡_, refl, sym, ap, _∙_, subst}
+use mathlib.Core.Logic.{_⊎_, inl, inr, _↔_}
+use mathlib.Core.List.{List, [], _∷_}
+use mathlib.Core.Bool.{true, false}
+use native.Mathlib.Omega.{arith}
+use lib.Dec.{ltb}
+use lib.ListN.{length, take, getD, length-append, length-replicate}
+use borrow.Author.Tests.{ltb-true, ltb-false}
+use Rattle.rules.proofs.Tests.{by-cases, not-both}
+use Rattle.model.specs.Model.{Store, cards, historyIn}
+use Rattle.model.specs.Layout.{mostFaults, encode, decode, sound}
+use Rattle.model.specs.Calls.{scratchNeed, cleaned}
+use Rattle.model.specs.Runs.{Act, perform}
+use Rattle.model.specs.Runs as Runs
+use Rattle.model.specs.Job.{linesOf, Line, bad, enter, show, withdraw, file, kind, lineOf, padded, enough, stepOf, answerText, Tally, Run, runLines, started, Finished, turnedAway, jobIf, mostText, job}
+use Rattle.model.proofs.Fair.{filings, Good, limits-of, faults-total}
+use Rattle.model.proofs.Look.{look}
+use Rattle.model.proofs.Steps.{removed-total}
+use Rattle.model.proofs.Cases.{faults-fit, enter-cases, file-cases}
+use Rattle.model.proofs.Numbers.{hit, miss, show-numbers, withdraw-numbers, act-numbers}
+use Rattle.model.proofs.Deeds.{lines-store}
+
+-- the job by its tests, whatever is to be shown of it
+module _ (w scratch text out : List ℕ) (t : Tally) (P : Finished → Type 0) where
+  pub job-cases :
+      (length scratch < scratchNeed → P (turnedAway 11 w out scratch t))
+      → (scratchNeed ≤ length scratch → mostText < length text → P (turnedAway 13 w out (cleaned scratch) t))
+      → (scratchNeed ≤ length scratch → length text ≤ mostText → sound w ≡ false → P (turnedAway 3 w out (cleaned scratch) t))
+      → (scratchNeed ≤ length scratch → length text ≤ mostText → sound w ≡ true → P (jobIf true w scratch text out t))
+      → P (job w scratch text out t)
+  unfolding job
+  job-cases short long unsound lines =
+      by-cases (ltb (length scratch) scratchNeed)
+      (λ e. rw e (short (ltb-true (length scratch) scratchNeed e)))
+      (λ e. let a = ltb-false (length scratch) scratchNeed e in
+      rw e (by-cases (ltb mostText (length text))
+      (λ f. rw f (long a (ltb-true mostText (length text) f)))
+      (λ f. let b = ltb-false mostText (length text) f in
+      rw f (by-cases (sound w) (λ ok. rw ok (lines a b ok)) (λ no. rw no (unsound a b no))))))
+
+-- what a line is answered on a store, as text
+abbrev pub answerTo : Store → List ℕ → List ℕ
+answerTo s x = answerText (lineOf x) (stepOf s (lineOf x))
+
+-- all lines were answered
+pub record AllAnswered (xs : List (List ℕ)) (from to : Run) : Type 0 where
+  pub number : to .number ≡ 0
+  pub lines : to .lines ≡ from .lines + length xs
+
+-- some were, and the answer of the next exceeds the output left
+pub record Stopped (xs : List (List ℕ)) (room : ℕ) (from to : Run) : Type 0 where
+  pub number : to .number ≡ 10
+  pub done : ℕ
+  pub lines : to .lines ≡ from .lines + done
+  pub left : done < length xs
+  pub over : room < length (to .text) + length (answerTo (to .store) (getD xs done []))
+
+one-more : {x : List ℕ} {xs : List (List ℕ)} {room : ℕ} {r next to : Run} → next .lines ≡ suc (r .lines)
+    → AllAnswered xs next to ⊎ Stopped xs room next to → AllAnswered (x ∷ xs) r to ⊎ Stopped (x ∷ xs) room r to
+one-more l (inl a) = inl (record { number = a .number; lines = omega (arith, a .lines) })
+one-more l (inr s) =
+    inr (record { number = s .number; done = suc (s .done); lines = omega (arith, s .lines); left = omega (arith, s .left); over = s .over })
+
+pub lines-end : (xs : List (List ℕ)) (room : ℕ) (r : Run) → r .number ≡ 0 → AllAnswered xs r (runLines xs room r) ⊎ Stopped xs room r (runLines xs room r)
+unfolding runLines
+lines-end [] room r h = inl (record { number = h; lines = omega arith })
+lines-end (x ∷ xs) room r h =
+    by-cases (ltb room (length (r .text) + length (answerTo (r .store) x)))
+    (λ e. rw e (inr (record { number = refl; done = 0; lines = omega arith; left = omega arith; over = ltb-true room (length (r .text) + length (answerTo (r .store) x)) e })))
+    (λ e. rw e (one-more refl (lines-end xs room _ refl)))
+
+-- what is written never exceeds the room
+pub lines-fit : (xs : List (List ℕ)) (room : ℕ) (r : Run) → length (r .text) ≤ room → length (runLines xs room r .text) ≤ room
+unfolding runLines
+lines-fit [] room r h = h
+lines-fit (x ∷ xs) room r h =
+    by-cases (ltb room (length (r .text) + length (answerTo (r .store) x)))
+    (λ e. rw e h) (λ e. rw e (lines-fit xs room _ (omega (arith, ltb-false, length-append (r .text) (answerTo (r .store) x)))))
+
+-- a job that comes to its lines
+abbrev pub Reached : List ℕ → List ℕ → List ℕ → Type 0
+Reached w scratch text = (scratchNeed ≤ length scratch) × (length text ≤ mostText) × (sound w ≡ true)
+
+-- the table of numbers for a job
+pub record JobNumbers (w scratch text out : List ℕ) (j : Finished) : Type 0 where
+  pub short : (j .number ≡ 11) ↔ (length scratch < scratchNeed)
+  pub long : (j .number ≡ 13) ↔ ((scratchNeed ≤ length scratch) × (mostText < length text))
+  pub unsound : (j .number ≡ 3) ↔ ((scratchNeed ≤ length scratch) × (length text ≤ mostText) × (sound w ≡ false))
+  pub stopped : (j .number ≡ 10) ↔ (Reached w scratch text × (j .lines < length (linesOf text)))
+  pub done : (j .number ≡ 0) ↔ (Reached w scratch text × (j .lines ≡ length (linesOf text)))
+  -- it stops before a line whose answer with its LF exceeds the output left
+  pub over : j .number ≡ 10 → length out < j .bytes + length (answerTo (decode (j .words)) (getD (linesOf text) (j .lines) []))
+
+module _ (w scratch text out : List ℕ) (t : Tally) where
+  abbrev ran : Run
+  ran = runLines (linesOf text) (length out) (started (decode w) t)
+
+  lines-numbers : scratchNeed ≤ length scratch → length text ≤ mostText → (ok : sound w ≡ true) → JobNumbers w scratch text out (jobIf true w scratch text out t)
+  lines-numbers a b ok = go (lines-end (linesOf text) (length out) (started (decode w) t) refl)
+    where
+      go : AllAnswered (linesOf text) (started (decode w) t) ran ⊎ Stopped (linesOf text) (length out) (started (decode w) t) ran → JobNumbers w scratch text out (jobIf true w scratch text out t)
+      go (inl e) =
+          record {
+            short = miss (omega (arith, e .number)) (omega arith);
+            long = miss (omega (arith, e .number)) (λ c. omega arith);
+            unsound = miss (omega (arith, e .number)) (λ c. not-both ok (c .2));
+            stopped = miss (omega (arith, e .number)) (λ c. omega (arith, e .lines));
+            done = hit (e .number) ((a, b, ok), omega (arith, e .lines));
+            over = λ n. absurd (omega (arith, e .number));
+          }
+      go (inr s) =
+          record {
+            short = miss (omega (arith, s .number)) (omega arith);
+            long = miss (omega (arith, s .number)) (λ c. omega arith);
+            unsound = miss (omega (arith, s .number)) (λ c. not-both ok (c .2));
+            stopped = hit (s .number) ((a, b, ok), omega (arith, s .lines, s .left));
+            done = miss (omega (arith, s .number)) (λ c. omega (arith, s .lines, s .left));
+            over = λ n. let z : ran .lines ≡ s .done = omega (arith, s .lines) in rw (lines-store w ok (linesOf text) (length out) t, z) (s .over);
+          }
+
+  pub job-numbers : JobNumbers w scratch text out (job w scratch text out t)
+  job-numbers =
+      job-cases w scratch text out t (JobNumbers w scratch text out)
+      (λ a. record {
+        short = hit refl a;
+        long = miss (omega arith) (λ c. omega arith);
+        unsound = miss (omega arith) (λ c. omega arith);
+        stopped = miss (omega arith) (λ c. omega arith);
+        done = miss (omega arith) (λ c. omega arith);
+        over = λ n. absurd (omega arith);
+      })
+      (λ a b. record {
+        short = miss (omega arith) (omega arith);
+        long = hit refl (a, b);
+        unsound = miss (omega arith) (λ c. omega arith);
+        stopped = miss (omega arith) (λ c. omega arith);
+        done = miss (omega arith) (λ c. omega arith);
+        over = λ n. absurd (omega arith);
+      })
+      (λ a b no. record {
+        short = miss (omega arith) (omega arith);
+        long = miss (omega arith) (λ c. omega arith);
+        unsound = hit refl (a, b, no);
+        stopped = miss (omega arith) (λ c. not-both (c .0 .2) no);
+        done = miss (omega arith) (λ c. not-both (c .0 .2) no);
+        over = λ n. absurd (omega arith);
+      })
+      lines-numbers
+
+-- lines
+
+-- a history has at most as many faults as a store can hold
+history-fits : (s : Store) → Good s → (y : List ℕ) → length (historyIn s y) ≤ mostFaults
+history-fits s g y =
+    omega (arith, faults-total (look s y), faults-total (cards s), removed-total s (g .fair) y filings, faults-fit s g, limits-of (s .limit) (s .faultLimit) (g .fair .limits) .mostFaults)
+
+pub enough-long : length enough ≡ 2 * mostFaults
+unfolding enough
+enough-long = length-replicate {A = ℕ} (2 * mostFaults) 0
+
+pub record LineNumbers (l : Line) (k : ℕ) : Type 0 where
+  pub formless : (k ≡ 12) ↔ (l ≡ bad)
+  pub never-10 : k ≡ 10 → ⊥
+
+-- a line that asks for an act
+acts : (s : Store) → Good s → (a : Act) (l : Line) → (l ≡ bad → ⊥) → (perform s a .answer .number ≡ 10 → ⊥) → LineNumbers l (perform s a .answer .number)
+acts s g a l some ten = record { formless = miss (act-numbers s g a .2) some; never-10 = ten }
+
+pub line-numbers : (s : Store) → Good s → (l : Line) → LineNumbers l (stepOf s l .answer .number)
+unfolding stepOf kind
+line-numbers s g bad = record { formless = hit refl refl; never-10 = omega arith }
+line-numbers s g (enter f) =
+    acts s g (Runs.enter (padded f) (length f)) (enter f) (λ e. omega (arith, ap kind e))
+    (enter-cases s g (padded f) (length f) (λ r. r .answer .number ≡ 10 → ⊥) (λ v. omega arith) (λ v l. omega arith) (λ v l f. omega arith) (λ v l f. omega arith))
+line-numbers s g (show f) =
+    acts s g (Runs.show (padded f) (length f) enough) (show f) (λ e. omega (arith, ap kind e))
+    (λ e. omega (arith, show-numbers s (padded f) (length f) enough g .small .0 e .2, enough-long, history-fits s g (take (length f) (padded f))))
+line-numbers s g (withdraw f) =
+    acts s g (Runs.withdraw (padded f) (length f) enough) (withdraw f) (λ e. omega (arith, ap kind e))
+    (λ e. omega (arith, withdraw-numbers s (padded f) (length f) enough g .small .0 e .2, enough-long, history-fits s g (take (length f) (padded f))))
+line-numbers s g (file f day code) =
+    acts s g (Runs.file (padded f) (length f) day code) (file f day code) (λ e. omega (arith, ap kind e))
+    (file-cases s g (padded f) (length f) (λ r. r .answer .number ≡ 10 → ⊥) day code
+    (λ v. omega arith) (λ v w. omega arith) (λ v w l. omega arith) (λ v w l f. omega arith) (λ v w l f. omega arith))
