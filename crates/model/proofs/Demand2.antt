@@ -59,7 +59,10 @@ pub record Match (r : Step) (q : Reply) : Type 0 where
   pub agrees : Agrees (q .book) (r .store)
 
 -- the store itself, as a list of entries, is such a book
-pub plain-agrees : (s : Store) → Fair s → Agrees (record { limit = s .limit; faultLimit = s .faultLimit; entries = plain s }) s
+abbrev pub bookOf : Store → Book
+bookOf s = record { limit = s .limit; faultLimit = s .faultLimit; entries = plain s }
+
+pub plain-agrees : (s : Store) → Fair s → Agrees (bookOf s) s
 plain-agrees s r =
     record {
       limit = refl;

@@ -3,7 +3,8 @@
 -- the words stand for; so what holds of one act holds of one call (`kept-call`, `book-call`), and a run of calls is a fold of that.
 -- `demand3`: the words stay sound, each held card's history is what calls and answers alone tell of its serial, faults accepted are
 -- those held and those gone, and 9 is answered exactly when the first less the last is the fault limit. `demand2`: every call tells what
--- a plain list of cards would tell, and after every call the store holds under each serial what that list holds.
+-- a plain list of cards would tell, and after every call the store holds under each serial what that list holds; `demand2-from`: the same from any
+-- sound store on, with its own cards as the list.
 use Prim.Native.Nat.{ℕ, _+_, _-_, _≤_}
 use mathlib.Core.Path.{_≡_, refl, sym, _∙_}
 use mathlib.Core.Logic.{_↔_}
@@ -23,7 +24,7 @@ use Rattle.model.proofs.Look.{look}
 use Rattle.model.proofs.Sound.{sound-is, sound-good}
 use Rattle.model.proofs.Fresh.{fair-fresh, fresh-sound}
 use Rattle.model.proofs.Demand3.{good-act, Kept, kept-fresh, kept-open, kept-act, kept-refused, kept-card, kept-room}
-use Rattle.model.proofs.Demand2.{Agrees, emptyBook, fresh-agrees, call-match}
+use Rattle.model.proofs.Demand2.{Agrees, bookOf, plain-agrees, emptyBook, fresh-agrees, call-match}
 use Rattle.model.proofs.Outcomes.{read-back, open-cases, call-cases, opened-fresh, sound-call, sound-run}
 
 -- demand 3
@@ -116,6 +117,11 @@ book-run w ok b a (c ∷ cs) =
     let d = book-run (wordsAfter w c) (sound-call w ok c) (bookCall b c .book) (r .agrees) cs in
     record { same-tells = rw (r .tell, d .same-tells); agrees = d .agrees }
 
+-- from any sound store on, the list that it starts with being the store's own
+pub demand2-from : (w : List ℕ) → sound w ≡ true → (cs : List Call) → Demand2 w (bookOf (decode w)) cs
+demand2-from w ok cs = book-run w ok (bookOf (decode w)) (plain-agrees (decode w) (sound-good w ok .0 .fair)) cs
+
+-- from an accepted Open on, the list being empty
 pub demand2 : (w : List ℕ) (c f : ℕ) → openCall w c f .number ≡ 0 → (cs : List Call) → Demand2 (openCall w c f .words) (emptyBook c f) cs
 demand2 w c f e cs =
     let o = opened-fresh w c f e in

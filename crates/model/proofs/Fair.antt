@@ -1,4 +1,4 @@
--- A fair store and a good one, as facts with names; `fair` and `good` decide them (`fair-is`, `is-fair`, `good-is`, `is-good`). What is
+-- A fair store and a good one, as facts with names; `fair` decides the one (`fair-is`, `is-fair`) and `loadOk` what a good store has more (`load-is`, `is-load`). What is
 -- counted of a store is a sum over its cards: `card-cells`, `card-count`, `fault-cells`, `fault-count`.
 use Prim.Native.Nat.{ℕ, zero, suc, _+_, _*_, _≤_, _<_}
 use mathlib.Core.Path.{_≡_, refl, sym, ap, _∙_}
@@ -193,14 +193,3 @@ is-load s g =
     (by-cases (eqb (size s) least)
     (λ e. rw e)
     (λ e. rw e (le-leb (lower * size s) (held s) (g .low (omega (arith, size-least s (g .fair), eqb-false (size s) least e))))))
-
-pub good-is : (s : Store) → good s ≡ true → Good s
-unfolding good
-good-is s t =
-    let h = both (loadOk s) (fair s) t in
-    let l = load-is s (h .0) in
-    record { fair = fair-is s (h .1); high = l .0; low = l .1 }
-
-pub is-good : (s : Store) → Good s → good s ≡ true
-unfolding good
-is-good s g = all-of (is-load s g) (is-fair s (g .fair))

@@ -1,4 +1,4 @@
--- Sound words are those that stand for a store whose load is right (`sound-iff`): `rep-decode` and `rep-words` say that such words are
+-- Sound words are those that stand for a store whose load is right (`sound-is`, `is-sound`): `rep-decode` and `rep-words` say that such words are
 -- the encoding of what is read from them. So the encoding of a good store is sound (`good-sound`), and sound words are the encoding of
 -- a good store (`sound-good`).
 use mathlib.Core.Path.{_≡_, sym, ap, _∙_, subst}
@@ -40,9 +40,6 @@ sound-is w e = go (stateOk (getD w 3 0) (getD w 4 0) && limitsOk (getD w 1 0) (g
         let b = both (loadOk (decode w)) (fair (decode w)) (a .0) in
         (subst (λ (v : List ℕ). Rep v (decode w)) (same-is (encode (decode w)) w .0 (a .1)) (rep-encode (decode w) (fair-is (decode w) (b .1))), b .0)
     go false e = absurd (false≢true e)
-
-pub sound-iff : (w : List ℕ) → (sound w ≡ true) ↔ (Rep w (decode w) × (loadOk (decode w) ≡ true))
-sound-iff w = (sound-is w, λ h. is-sound w (decode w) (h .0) (h .1))
 
 -- the encoding of a good store is sound, and sound words are one
 pub good-sound : (s : Store) → Good s → sound (encode s) ≡ true

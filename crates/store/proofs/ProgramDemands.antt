@@ -2,15 +2,16 @@
 -- leaves what the model says, by equations; so a sequence of calls that meet theirs is the model's sequence (`same-words`, `same-events`,
 -- `same-tells`), and the model's theorems hold of it.
 use mathlib.Core.Path.{_≡_, refl, sym, ap, _∙_, subst}
-use mathlib.Core.Bool.{cond}
+use mathlib.Core.Bool.{true, cond}
 use mathlib.Core.List.{List, [], _∷_, _++_, map}
 use Prim.Native.Nat.{ℕ}
 use lib.Dec.{eqb}
-use Rattle.model.specs.Layout.{decode}
+use Rattle.model.specs.Layout.{decode, sound}
 use Rattle.model.specs.Calls.{openCall}
+use Rattle.model.specs.Plain.{Book}
 use Rattle.model.specs.Runs.{Act, Call, Call.opening, Call.acting, wordsAfter, run, Event, Event.opened, eventsOf, events, Tell, tellOf, tells, bookAfter, bookTells}
-use Rattle.model.proofs.Demand2.{Agrees, emptyBook}
-use Rattle.model.proofs.Demands.{Demand3, Demand2, demand3, demand2}
+use Rattle.model.proofs.Demand2.{Agrees, bookOf, emptyBook}
+use Rattle.model.proofs.Demands.{Demand3, Demand2, demand3, demand2, demand2-from}
 use Rattle.store.specs.Leaves.{Opens, Leaves}
 use Rattle.store.specs.Sequences.{Given, Made, Meets, AllMeet, endWords, seen, seenOf, toldOf}
 
@@ -60,16 +61,19 @@ program-demand3 w₀ w c f o ms a =
     let e = opened-words w₀ w c f o in
     rw (same-words w ms a, same-events w ms a, e .1) (demand3 w₀ c f (e .0) (callsOf ms))
 
--- each answer is the plain list's, and the store and the list agree on every serial at the end
-pub record AsList (w : List ℕ) (c f : ℕ) (ms : List Made) : Type 0 where
-  pub answers : toldOf ms ≡ bookTells (emptyBook c f) (callsOf ms)
-  pub agrees : Agrees (bookAfter (emptyBook c f) (callsOf ms)) (decode (endWords w ms))
+-- each answer is that of a plain list, and the store and the list agree on every serial at the end
+pub record AsList (w : List ℕ) (b : Book) (ms : List Made) : Type 0 where
+  pub answers : toldOf ms ≡ bookTells b (callsOf ms)
+  pub agrees : Agrees (bookAfter b (callsOf ms)) (decode (endWords w ms))
 
-pub program-demand2 : (w₀ w : List ℕ) (c f : ℕ) → Opens (openCall w₀ c f) 0 w → (ms : List Made) → AllMeet w ms → AsList w c f ms
+as-list : (w : List ℕ) (b : Book) (ms : List Made) → AllMeet w ms → Demand2 w b (callsOf ms) → AsList w b ms
+as-list w b ms a d = record { answers = same-tells w ms a ∙ d .same-tells; agrees = rw (same-words w ms a) (d .agrees) }
+
+-- from an accepted Open on, with an empty list
+pub program-demand2 : (w₀ w : List ℕ) (c f : ℕ) → Opens (openCall w₀ c f) 0 w → (ms : List Made) → AllMeet w ms → AsList w (emptyBook c f) ms
 program-demand2 w₀ w c f o ms a =
-    let e = opened-words w₀ w c f o in
-    let d = demand2 w₀ c f (e .0) (callsOf ms) in
-    record {
-      answers = same-tells w ms a ∙ rw (e .1) (d .same-tells);
-      agrees = rw (same-words w ms a, e .1) (d .agrees);
-    }
+    let e = opened-words w₀ w c f o in as-list w (emptyBook c f) ms a (rw (e .1) (demand2 w₀ c f (e .0) (callsOf ms)))
+
+-- from any sound store on, with the list of its own cards
+pub program-demand2-from : (w : List ℕ) → sound w ≡ true → (ms : List Made) → AllMeet w ms → AsList w (bookOf (decode w)) ms
+program-demand2-from w ok ms a = as-list w (bookOf (decode w)) ms a (demand2-from w ok (callsOf ms))
