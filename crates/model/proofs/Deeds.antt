@@ -1,14 +1,14 @@
 -- A job is the calls of its answered lines (`job-calls`). A line on sound words gives what its call gives (`line-step`); line by line, a job on the store that sound words stand for walks
 -- with the calls on the words (`lines-run`). So every sequence of calls and jobs leaves the words of a sequence of calls (`deeds-run`),
 -- and the demands hold of it (`deeds-demand3`, `deeds-demand2`), also at every line in the middle of a job (`at-a-line`, `filing-line`).
-use Prim.Native.Nat.{ℕ, suc, _+_, _-_, _≤_}
+use Prim.Native.Nat.{ℕ, zero, suc, _+_, _-_, _≤_, _<_}
 use mathlib.Core.Path.{_≡_, refl, sym, ap, _∙_, subst}
 use mathlib.Core.Logic.{_↔_}
 use mathlib.Core.List.{List, [], _∷_, _++_, map, append-nil, append-assoc}
 use mathlib.Core.Bool.{Bool, true, false, cond}
 use native.Mathlib.Omega.{arith}
 use lib.Dec.{ltb}
-use lib.ListN.{length, take, drop, length-replicate}
+use lib.ListN.{length, take, drop, getD, length-replicate}
 use Rattle.rules.proofs.Tests.{by-cases}
 use Rattle.model.specs.Serial.{validSerial, validFault}
 use Rattle.model.specs.Model.{Store}
@@ -16,7 +16,7 @@ use Rattle.model.specs.Layout.{encode, decode, sound}
 use Rattle.model.specs.Calls.{Step, scratchNeed, openCall}
 use Rattle.model.specs.Runs.{Act, perform, Call, Call.acting, wordsAfter, run, events, taken, gone, since}
 use Rattle.model.specs.Job.{Line, linesOf, padded, lineOf, enough, stepOf, answerText, Tally, counted, Run, runLines, started, Finished, mostText, job}
-use Rattle.model.specs.Deeds.{actsOf, tidy, callsBy, callsOf, stepBy, said, Deed, Deed.calling, Deed.working, wordsBy, wordsByAll, callsIn, callsInAll}
+use Rattle.model.specs.Deeds.{actsOf, tidy, callsBy, callsOf, stepBy, saidBy, said, Deed, Deed.calling, Deed.working, wordsBy, wordsByAll, callsIn, callsInAll}
 use Rattle.model.proofs.Look.{look}
 use Rattle.model.proofs.Sound.{sound-good}
 use Rattle.model.proofs.Fresh.{fresh-sound}
@@ -154,6 +154,15 @@ job-calls w ok scratch text out t =
     (λ m. let r = runLines (linesOf text) (length out) (started (decode w) t) in
     let q = went w text out t ok r (lines-run (linesOf text) w ok (length out) (started (decode w) t) refl) in
     rw (m, ok) (record { words-are = q .0; bytes-are = ap length (q .1); out-is = ap (λ (l : List ℕ). l ++ drop (length (r .text)) out) (q .1) }))))
+
+-- what lines say, at line k: behind what those before it say stands what it says itself, on the words that they leave
+pub said-at : (w : List ℕ) (xs : List (List ℕ)) (k : ℕ) → k < length xs
+    → said w xs ≡ said w (take k xs) ++ (saidBy (run w (callsOf (take k xs))) (getD xs k []) ++ said (run w (callsOf (take (suc k) xs))) (drop (suc k) xs))
+said-at w [] k h = absurd (omega arith)
+said-at w (x ∷ xs) zero h = rw (append-nil (callsBy x))
+said-at w (x ∷ xs) (suc k) h =
+    rw (run-append w (callsBy x) (callsOf (take k xs)), run-append w (callsBy x) (callsOf (take (suc k) xs)), said-at (run w (callsBy x)) xs k (omega arith))
+    (sym (append-assoc (saidBy w x) (said (run w (callsBy x)) (take k xs)) _))
 
 -- sequences
 

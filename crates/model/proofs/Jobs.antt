@@ -3,7 +3,7 @@
 -- its form is bad, and by 10 never, since the room it is given has two words for each fault that a store can hold (`line-numbers`).
 use Prim.Native.Nat.{ℕ, zero, suc, _+_, _*_, _≤_, _<_}
 use mathlib.Core.Path.{_≡_, refl, sym, ap, _∙_, subst}
-use mathlib.Core.Logic.{_⊎_, inl, inr, _↔_}
+use mathlib.Core.Logic.{_⊎_, inl, inr, ⊎-elim, _↔_}
 use mathlib.Core.List.{List, [], _∷_}
 use mathlib.Core.Bool.{true, false}
 use native.Mathlib.Omega.{arith}
@@ -150,6 +150,12 @@ module _ (w scratch text out : List ℕ) (t : Tally) where
         over = λ n. absurd (omega arith);
       })
       lines-numbers
+
+  -- no more lines are done than there are
+  pub lines-few : job w scratch text out t .lines ≤ length (linesOf text)
+  lines-few =
+      job-cases w scratch text out t (λ j. j .lines ≤ length (linesOf text)) (λ a. omega arith) (λ a b. omega arith) (λ a b c. omega arith)
+      (λ a b ok. ⊎-elim (λ e. omega (arith, e .lines)) (λ s. omega (arith, s .lines, s .left)) (lines-end (linesOf text) (length out) (started (decode w) t) refl))
 
 -- lines
 
