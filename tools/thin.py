@@ -325,6 +325,17 @@ def walk(kind, cfg):
         return s
 
 
+    def call(to, place, tokens, given, row, lifetimes, passed, last):
+        """The callee is called, and what it ensures is heard at some last values of what it was lent."""
+        nonlocal opens
+        w(f"        calls-at ! fm (Callee 𝓤 H A at-mem run′) known {to} {opds(place)} (λ w.")
+        w(f"        use1 W (later (some (λ (r : {given}). ({tokens} ⊛ ‵ ({row}.the-row .own r (w ∷ []))) ⊛ raw (ensured 𝓤 H A {cal}.ended ({cal}.clauses 𝓤 H A at-mem run′) {lifetimes} {passed} tt r)))) (id⊢ 𝓤 _) $ await ! tt $ pick ! (λ r.")
+        w(f"        -- what `{callee}` ensures, at some last {last}")
+        w(f"        split ! $ {mv(1)} use1 W (some (λ (zs : Ends). ‵ (lasts {cal}.ended {lifetimes} {passed} zs) ⊛ raw (fact 𝓤 (Says r zs)))) (id⊢ 𝓤 _) $ pick ! (λ zs. split ! $ {mv(1)} heard ! (Says r zs) (λ e.")
+        opens += 4
+        w("        " + lasts_walk())
+
+
     if kind == "run":
         w("        -- what the parameters own and the tokens are taken apart, and the borrow is opened")
         w("        " + mv(2 * N + 1) + (" fsplit ! $ " + mv(1)) * k + " fsplit ! $ fsplit3 ! $ drop ! $ " + mv(3 + k + 2 * N) + (" split ! $ " + mv(1)) * k + " split ! $")
@@ -337,12 +348,7 @@ def walk(kind, cfg):
         w(f"        -- what `{callee}` asks is put together")
         w(f"        nothing ! $ owned ! R (Is R) {MAKES} h _ gh $ fjoin ! $" + (" " + mv(8 + k, 0) + " fjoin ! $") * k)
         w("        " + mv(7, 6) + " join ! $" + (" " + mv(7, 0) + " join ! $") * (k - 1) + " use2 W (raw (Callee 𝓤 H A at-mem run′ .pre to)) asks $")
-        w(f"        calls-at ! fm (Callee 𝓤 H A at-mem run′) known to {opds(lambda i: pos(i) + 7)} (λ w.")
-        w(f"        use1 W (later (some (λ (r : {Ran}). (tokens ⊛ ‵ (B.the-row .own r (w ∷ []))) ⊛ raw (ensured 𝓤 H A {cal}.ended ({cal}.clauses 𝓤 H A at-mem run′) {CKS} passed tt r)))) (id⊢ 𝓤 _) $ await ! tt $ pick ! (λ r.")
-        w(f"        -- what `{callee}` ensures, at some last lists")
-        w(f"        split ! $ {mv(1)} use1 W (some (λ (zs : Ends). ‵ (lasts {cal}.ended {CKS} passed zs) ⊛ raw (fact 𝓤 (Says r zs)))) (id⊢ 𝓤 _) $ pick ! (λ zs. split ! $ {mv(1)} heard ! (Says r zs) (λ e.")
-        opens += 4
-        w("        " + lasts_walk())
+        call("to", lambda i: pos(i) + 7, "tokens", Ran, "B", CKS, "passed", "lists")
         w(f"        drop ! $ {mv(m)} split ! $ {mv(1)}")
         w("        -- [the result; the tokens; the last lists; the cell; what it owned; the open borrow; obs; auth; true; the locals]")
         g = 8 + m
@@ -372,12 +378,7 @@ def walk(kind, cfg):
         w("        " + mv(3 + 2 * N - 1) + (" split ! $ " + mv(1)) * (k - 1) + " split ! $ " + mv(k + 3, 1) + " join ! $" + (" " + mv(1, 0) + " join ! $") * k)
         w("        " + mv(3 + 2 * N - 1) + (" fsplit ! $ " + mv(1)) * k + " drop ! $ nothing ! $ " + mv(k + 2, 0) + " fjoin ! $" + (" " + mv(1, 0) + " fjoin ! $") * k)
         w("        " + mv(1, 0) + f" use2 W (raw (Callee 𝓤 H A at-mem run′ .pre (to {L} ν δ))) (asks {L} ν δ) $")
-        w(f"        calls-at ! fm (Callee 𝓤 H A at-mem run′) known (to {L} ν δ) {opds(lambda i: at(i, 2))} (λ w.")
-        w(f"        use1 W (later (some (λ (r : {Done}). (tokens′ ν ⊛ ‵ (D.the-row .own r (w ∷ []))) ⊛ raw (ensured 𝓤 H A {cal}.ended ({cal}.clauses 𝓤 H A at-mem run′) (κs′ ν) (passed {L} δ) tt r)))) (id⊢ 𝓤 _) $ await ! tt $ pick ! (λ r.")
-        w(f"        -- what `{callee}` ensures, at some last values")
-        w(f"        split ! $ {mv(1)} use1 W (some (λ (zs : Ends). ‵ (lasts {cal}.ended (κs′ ν) (passed {L} δ) zs) ⊛ raw (fact 𝓤 (Says r zs)))) (id⊢ 𝓤 _) $ pick ! (λ zs. split ! $ {mv(1)} heard ! (Says r zs) (λ e.")
-        opens += 4
-        w("        " + lasts_walk())
+        call(f"(to {L} ν δ)", lambda i: at(i, 2), "tokens′ ν", Done, "D", "(κs′ ν)", f"(passed {L} δ)", "values")
         w(f"        fsplit ! $ {mv(1)} drop ! $ {mv(m + 1)} split ! $ {mv(1)}")
         g = 4 + m
         w("        -- [the result; the tokens; the last value; the last lists; the lender's part; the locals]")
