@@ -31,6 +31,7 @@ pub mod FindLaws
 -- What the contracts admit
 pub mod OneOutcome
 pub mod ProgramDemands
+-- Pairs written along a history
 pub mod ShowLaws
 -- The plans of calls, the changes that they make, and the calls
 pub mod PlanLaws

@@ -1,5 +1,6 @@
 -- What a plan that goes ahead makes of sound words: the places of the plan are those that the writers ask for (`may-place`, `may-file`,
--- `may-remove`), and the words that they leave are those of the step's store (`made-enter`, `made-file`, `made-withdraw`).
+-- `may-remove`), and the words that they leave are those of the step's store (`made-enter`, `made-file`, `made-withdraw`). A room for pairs
+-- holds those of the card (`show-holds`, `withdraw-holds`), and with them it is that of the step (`show-room`, `withdraw-room`).
 use mathlib.Core.Path.{_≡_, refl, sym, ap, _∙_}
 use mathlib.Core.Logic.{⊎-elim}
 use mathlib.Core.Bool.{Bool, true, false}
