@@ -11,6 +11,7 @@ ghost use Rattle.store.specs.Checker.{heldWord, partOf, DidPart, checked
 use crate::cells;
 use crate::cells::Header;
 use crate::front;
+use crate::layout;
 use crate::walks;
 
 // How many cells a part has, the number that marks its first, and how many chains it has beside the free one.
@@ -40,9 +41,9 @@ fn free_word(w: &[u32], faults: bool) -> u32
     ensures { λ r. ⌜ r ≡ getD (now (w .entry)) (cond faults 8 7) 0 ⌝ }
 {
     if faults {
-        cells::word(w, 8)
+        cells::word(w, layout::FREE_FAULTS)
     } else {
-        cells::word(w, 7)
+        cells::word(w, layout::FREE)
     }
 }
 
@@ -51,9 +52,9 @@ fn held_word(w: &[u32], faults: bool) -> u32
     ensures { λ r. ⌜ r ≡ heldWord (now (w .entry)) faults ⌝ }
 {
     if faults {
-        cells::word(w, 6)
+        cells::word(w, layout::FAULTS_HELD)
     } else {
-        cells::word(w, 5)
+        cells::word(w, layout::HELD)
     }
 }
 
@@ -65,7 +66,7 @@ pub fn part_fits(w: &[u32], scratch: &mut [u8], h: Header, faults: bool) -> bool
     let limit = limit_of(h, faults);
     let base = base_of(h, faults);
     let first = free_word(w, faults);
-    let free = walks::walk(w, scratch, h, faults, cells::TOP, base, limit, first);
+    let free = walks::walk(w, scratch, h, faults, layout::TOP, base, limit, first);
     if !free.ok {
         return false;
     }

@@ -6,6 +6,7 @@ ghost use Rattle.model.specs.Lists.{between};
 ghost use Rattle.model.specs.Serial.{allowed, validSerial, validFault};
 ghost use Rattle.model.specs.Layout.{packed};
 ghost use Rattle.store.specs.Cells.{packedAll, unpackedAll, fourBytes, byteFits};
+use crate::layout;
 
 // A number from lo to hi.
 pub fn within(lo: u32, hi: u32, x: u32) -> bool
@@ -84,7 +85,7 @@ fn word_of(s: [u8; 16], k: usize) -> u32
 }
 
 // The four words of a serial's sixteen bytes.
-pub fn pack(s: [u8; 16]) -> [u32; 4]
+pub fn pack(s: [u8; 16]) -> [u32; layout::SERIAL_WORDS]
     ensures { λ r. ⌜ r ≡ packedAll s ⌝ }
 {
     let a = word_of(s, 0);
