@@ -1,7 +1,7 @@
 // The words before the cells: header, directory, and bucket words past the last bucket.
 ghost use mathlib.Core.Path.{_≡_};
 ghost use mathlib.Core.Bool.{true};
-ghost use Prim.Native.Nat.{ℕ, _+_, _≤_, _<_};
+ghost use Prim.Native.Nat.{_+_, _≤_, _<_};
 ghost use lib.ListN.{length, getD};
 ghost use Rattle.rules.specs.Table.{top};
 ghost use Rattle.model.specs.Layout.{segmentsAt, limitsOk, lengthFor, faultsAt};

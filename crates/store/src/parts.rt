@@ -1,13 +1,13 @@
 // The two parts of the checker: the cards with their free chain, the faults with theirs.
 ghost use mathlib.Core.Path.{_≡_};
-ghost use mathlib.Core.Bool.{Bool, cond};
-ghost use Prim.Native.Nat.{ℕ, _+_, _≤_};
+ghost use mathlib.Core.Bool.{cond};
+ghost use Prim.Native.Nat.{_+_, _≤_};
 ghost use lib.ListN.{length, getD};
 ghost use Rattle.rules.specs.Table.{top};
 ghost use Rattle.model.specs.Layout.{segmentsAt};
 ghost use Rattle.model.specs.Calls.{scratchNeed};
 ghost use Rattle.store.specs.Cells.{Read};
-ghost use Rattle.store.specs.Checker.{heldWord, partOf, DidPart, checked, DidCheck};
+ghost use Rattle.store.specs.Checker.{heldWord, partOf, DidPart, DidCheck};
 use crate::cells;
 use crate::cells::Header;
 use crate::front;

@@ -1,7 +1,7 @@
 // The search of a bucket's chain for a serial: it counts the cards that it compares.
 ghost use mathlib.Core.Path.{_≡_};
 ghost use mathlib.Core.Bool.{true};
-ghost use Prim.Native.Nat.{_≤_, _<_};
+ghost use Prim.Native.Nat.{_≤_};
 ghost use lib.ListN.{take};
 ghost use Rattle.model.specs.Serial.{validSerial};
 ghost use Rattle.model.specs.Layout.{decode, sound};

@@ -1,6 +1,5 @@
 // Serials and faults: which are valid, and a serial's sixteen bytes packed into and out of four words.
 ghost use mathlib.Core.Path.{_≡_};
-ghost use mathlib.Core.List.{[], _∷_};
 ghost use Prim.Native.Nat.{_≤_, _/_, _%_, _^_};
 ghost use Rattle.model.specs.Lists.{between};
 ghost use Rattle.model.specs.Serial.{allowed, validSerial, validFault};

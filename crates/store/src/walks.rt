@@ -1,9 +1,8 @@
 // Walks of chains over marks: each cell is within its limit, stands in no chain walked before, and is what its chain asks.
 ghost use mathlib.Core.Path.{_≡_};
-ghost use mathlib.Core.Bool.{Bool, cond, _&&_};
+ghost use mathlib.Core.Bool.{cond, _&&_};
 ghost use mathlib.Core.List.{map};
-ghost use Prim.Native.Nat.{ℕ, _+_, _≤_, _<_};
-ghost use Rattle.rules.specs.Table.{top};
+ghost use Prim.Native.Nat.{_≤_, _<_};
 ghost use Rattle.model.specs.Lists.{from};
 ghost use Rattle.store.specs.Cells.{Sized, cellFits};
 ghost use Rattle.store.specs.Walk.{mayCome, walkOf, walksFrom, Did, DidAll};
