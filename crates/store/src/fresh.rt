@@ -5,7 +5,7 @@ ghost use mathlib.Core.List.{_++_};
 ghost use Prim.Native.Nat.{_*_, _<_};
 ghost use lib.ListN.{length, replicate};
 ghost use Rattle.model.specs.Model.{fresh};
-ghost use Rattle.model.specs.Layout.{segmentsAt, header, directory, limitsOk, lengthFor, encode};
+ghost use Rattle.model.specs.Layout.{directoryAt, segmentsAt, header, directory, limitsOk, lengthFor, encode};
 ghost use Rattle.store.specs.Fresh.{behind, leading, cellsTo};
 use crate::front;
 use crate::layout;
@@ -39,7 +39,7 @@ fn fresh_header(c: u32, f: u32) -> [u32; layout::HEADER]
 
 // The header, written whole.
 fn put_row(part: &mut [u32], row: [u32; layout::HEADER])
-    requires { ⌜ length (now part) ≡ 16 ⌝ }
+    requires { ⌜ length (now part) ≡ directoryAt ⌝ }
     ensures { λ _. ⌜ now (part .exit) ≡ row ⌝ }
 {
     let mut i: usize = 0;

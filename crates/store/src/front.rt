@@ -4,7 +4,7 @@ ghost use mathlib.Core.Bool.{true};
 ghost use Prim.Native.Nat.{_+_, _≤_, _<_};
 ghost use lib.ListN.{length, getD};
 ghost use Rattle.rules.specs.Table.{top};
-ghost use Rattle.model.specs.Layout.{segmentsAt, limitsOk, lengthFor, faultsAt};
+ghost use Rattle.model.specs.Layout.{limitAt, faultLimitAt, segmentsAt, limitsOk, lengthFor, faultsAt};
 ghost use Rattle.store.specs.Cells.{Read};
 ghost use Rattle.store.specs.Checker.{limitsFit, endsFit, offsetsFit, loadFits, entryFor, directoryFits, restFits, tableFits, frontFits};
 use crate::cells;
@@ -72,7 +72,7 @@ pub fn header(w: &[u32]) -> Header
 
 // Words 12 to 15.
 fn ends_fit(w: &[u32], c: u32, f: u32) -> bool
-    requires { ⌜ (segmentsAt + top ≤ length (now w)) × (getD (now w) 1 0 ≡ c) × (getD (now w) 2 0 ≡ f) ⌝ }
+    requires { ⌜ (segmentsAt + top ≤ length (now w)) × (getD (now w) limitAt 0 ≡ c) × (getD (now w) faultLimitAt 0 ≡ f) ⌝ }
     ensures { λ r. ⌜ r ≡ endsFit (now (w .entry)) ⌝ }
 {
     if cells::wide_word(w, layout::FAULTS_OFFSET) != faults_at(c) {
@@ -81,7 +81,7 @@ fn ends_fit(w: &[u32], c: u32, f: u32) -> bool
     if cells::wide_word(w, layout::WHOLE_LENGTH) != length_for(c, f) {
         return false;
     }
-    if cells::word(w, layout::ZERO) != 0 {
+    if cells::word(w, layout::FIRST_ZERO) != 0 {
         return false;
     }
     cells::word(w, layout::LAST_ZERO) == 0
@@ -89,7 +89,7 @@ fn ends_fit(w: &[u32], c: u32, f: u32) -> bool
 
 // Words 9 to 15.
 fn offsets_fit(w: &[u32], c: u32, f: u32) -> bool
-    requires { ⌜ (segmentsAt + top ≤ length (now w)) × (getD (now w) 1 0 ≡ c) × (getD (now w) 2 0 ≡ f) ⌝ }
+    requires { ⌜ (segmentsAt + top ≤ length (now w)) × (getD (now w) limitAt 0 ≡ c) × (getD (now w) faultLimitAt 0 ≡ f) ⌝ }
     ensures { λ r. ⌜ r ≡ offsetsFit (now (w .entry)) ⌝ }
 {
     if cells::wide_word(w, layout::DIRECTORY_OFFSET) != layout::DIRECTORY {

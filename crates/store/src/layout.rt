@@ -40,7 +40,7 @@ pub const FAULTS_OFFSET: usize = 12;
 pub const WHOLE_LENGTH: usize = 13;
 
 // Words 14 and 15: 0.
-pub const ZERO: usize = 14;
+pub const FIRST_ZERO: usize = 14;
 
 pub const LAST_ZERO: usize = 15;
 

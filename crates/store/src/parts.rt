@@ -4,7 +4,7 @@ ghost use mathlib.Core.Bool.{cond};
 ghost use Prim.Native.Nat.{_+_, _≤_};
 ghost use lib.ListN.{length, getD};
 ghost use Rattle.rules.specs.Table.{top};
-ghost use Rattle.model.specs.Layout.{segmentsAt};
+ghost use Rattle.model.specs.Layout.{freeAt, freeFaultsAt, segmentsAt};
 ghost use Rattle.model.specs.Calls.{scratchNeed};
 ghost use Rattle.store.specs.Cells.{Read};
 ghost use Rattle.store.specs.Checker.{heldWord, partOf, DidPart, DidCheck};
@@ -38,7 +38,7 @@ fn chain_count(h: Header, faults: bool) -> u32
 // The first free cell of a part, and the word that says how many of its cells are held.
 fn free_word(w: &[u32], faults: bool) -> u32
     requires { ⌜ segmentsAt + top ≤ length (now w) ⌝ }
-    ensures { λ r. ⌜ r ≡ getD (now (w .entry)) (cond faults 8 7) 0 ⌝ }
+    ensures { λ r. ⌜ r ≡ getD (now (w .entry)) (cond faults freeFaultsAt freeAt) 0 ⌝ }
 {
     if faults {
         cells::word(w, layout::FREE_FAULTS)

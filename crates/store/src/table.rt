@@ -4,7 +4,7 @@ ghost use Prim.Native.Nat.{_+_, _≤_, _<_};
 ghost use lib.ListN.{length, set};
 ghost use Rattle.rules.specs.Table.{top, highMaxp, highP, lowMaxp, lowP};
 ghost use Rattle.model.specs.Model.{grown, shrunk};
-ghost use Rattle.model.specs.Layout.{segmentsAt, encode, decode};
+ghost use Rattle.model.specs.Layout.{maxpAt, pAt, segmentsAt, encode, decode};
 ghost use Rattle.model.specs.Meaning.{nextCard, bucketWord};
 ghost use Rattle.model.specs.Words.{openWords, closeWords, movesAt, partWords, splitWords, joinWords};
 ghost use Rattle.store.specs.Cells.{Sized};
@@ -103,7 +103,7 @@ fn low_p(maxp: u32, p: u32) -> u32
 // maxp and p, words 3 and 4 of the header.
 fn set_state(w: &mut [u32], maxp: u32, p: u32)
     requires { ⌜ segmentsAt + top ≤ length (now w) ⌝ }
-    ensures { λ _. ⌜ now (w .exit) ≡ set (set (now (w .entry)) 3 maxp) 4 p ⌝ }
+    ensures { λ _. ⌜ now (w .exit) ≡ set (set (now (w .entry)) maxpAt maxp) pAt p ⌝ }
 {
     w[layout::MAXP] = maxp;
     w[layout::P] = p;

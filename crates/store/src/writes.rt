@@ -9,7 +9,7 @@ ghost use lib.ListN.{length, set, take, replicate};
 ghost use lib.Seq.{sets};
 ghost use Rattle.rules.specs.Table.{top};
 ghost use Rattle.model.specs.Serial.{validSerial};
-ghost use Rattle.model.specs.Layout.{segmentsAt, cardWidth, faultWidth, follow, last as lastOf};
+ghost use Rattle.model.specs.Layout.{heldAt, faultsHeldAt, freeAt, toNext, toFirst, toLast, toCount, segmentsAt, cardWidth, faultWidth, follow, last as lastOf};
 ghost use Rattle.model.specs.Meaning.{nextFault};
 ghost use Rattle.model.specs.Words.{cardAt, faultAt, linkAt, placeWords, fileWords, clearWords, giveWords, removeWords};
 ghost use Rattle.store.specs.Cells.{Sized};
@@ -98,7 +98,7 @@ pub fn put_card(w: &mut [u32], c: u32, i: u32, k: usize, v: u32)
 
 pub fn put_card_cell(w: &mut [u32], c: u32, i: u32, words: [u32; layout::CARD])
     requires { ⌜ (segmentsAt + top + cardWidth * c ≤ length (now w)) × (1 ≤ i) × (i ≤ c) ⌝ }
-    ensures { λ _. ⌜ now (w .exit) ≡ sets (now (w .entry)) (cardAt i 0) words ⌝ }
+    ensures { λ _. ⌜ now (w .exit) ≡ sets (now (w .entry)) (cardAt i toNext) words ⌝ }
 {
     let e = front::faults_at(c);
     fill_card(&mut w[layout::CARDS..e], i, words);
@@ -114,7 +114,7 @@ pub fn put_fault(w: &mut [u32], c: u32, i: u32, k: usize, v: u32)
 
 pub fn put_fault_cell(w: &mut [u32], c: u32, i: u32, words: [u32; layout::FAULT])
     requires { ⌜ (segmentsAt + top + cardWidth * c + faultWidth * i ≤ length (now w)) × (1 ≤ i) ⌝ }
-    ensures { λ _. ⌜ now (w .exit) ≡ sets (now (w .entry)) (faultAt c i 0) words ⌝ }
+    ensures { λ _. ⌜ now (w .exit) ≡ sets (now (w .entry)) (faultAt c i toNext) words ⌝ }
 {
     let e = front::faults_at(c);
     fill_fault(&mut w[e..], i, words);
@@ -151,7 +151,7 @@ pub fn place(w: &mut [u32], c: u32, f: u32, b: u32, last: u32, serial: [u8; 16],
 // Which fault stands behind fault `last` of the card in cell i: the next word of `last`, or the card's first-fault word where it is 0.
 fn link_fault(w: &mut [u32], c: u32, i: u32, last: u32, v: u32)
     requires { ⌜ (segmentsAt + top + cardWidth * c + faultWidth * last ≤ length (now w)) × (1 ≤ i) × (i ≤ c) ⌝ }
-    ensures { λ _. ⌜ now (w .exit) ≡ set (now (w .entry)) (cond (eqb last 0) (cardAt i 6) (faultAt c last 0)) v ⌝ }
+    ensures { λ _. ⌜ now (w .exit) ≡ set (now (w .entry)) (cond (eqb last 0) (cardAt i toFirst) (faultAt c last toNext)) v ⌝ }
 {
     if last == 0 {
         put_card(w, c, i, layout::FIRST, v);
@@ -163,7 +163,7 @@ fn link_fault(w: &mut [u32], c: u32, i: u32, last: u32, v: u32)
 // A card's last fault and fault count, and the faults held.
 fn put_counts(w: &mut [u32], c: u32, i: u32, last: u32, count: u32, held: u32)
     requires { ⌜ (segmentsAt + top + cardWidth * c ≤ length (now w)) × (1 ≤ i) × (i ≤ c) ⌝ }
-    ensures { λ _. ⌜ now (w .exit) ≡ set (set (set (now (w .entry)) (cardAt i 7) last) (cardAt i 8) count) 6 held ⌝ }
+    ensures { λ _. ⌜ now (w .exit) ≡ set (set (set (now (w .entry)) (cardAt i toLast) last) (cardAt i toCount) count) faultsHeldAt held ⌝ }
 {
     put_card(w, c, i, layout::LAST, last);
     put_card(w, c, i, layout::COUNT, count);
@@ -217,7 +217,7 @@ fn give_back(w: &mut [u32], c: u32, f: u32, first: u32, last: u32)
 // A card cell goes to the front of the free ones.
 fn free_card(w: &mut [u32], c: u32, i: u32, free: u32)
     requires { ⌜ (segmentsAt + top + cardWidth * c ≤ length (now w)) × (1 ≤ i) × (i ≤ c) ⌝ }
-    ensures { λ _. ⌜ now (w .exit) ≡ set (sets (now (w .entry)) (cardAt i 0) (free ∷ replicate (cardWidth - 1) 0)) 7 i ⌝ }
+    ensures { λ _. ⌜ now (w .exit) ≡ set (sets (now (w .entry)) (cardAt i toNext) (free ∷ replicate (cardWidth - 1) 0)) freeAt i ⌝ }
 {
     put_card_cell(w, c, i, [free, 0, 0, 0, 0, 0, 0, 0, 0]);
     put_word(w, layout::FREE, i);
@@ -225,8 +225,8 @@ fn free_card(w: &mut [u32], c: u32, i: u32, free: u32)
 
 // The cards and faults held.
 fn put_held(w: &mut [u32], cards: u32, faults: u32)
-    requires { ⌜ 6 < length (now w) ⌝ }
-    ensures { λ _. ⌜ now (w .exit) ≡ set (set (now (w .entry)) 5 cards) 6 faults ⌝ }
+    requires { ⌜ faultsHeldAt < length (now w) ⌝ }
+    ensures { λ _. ⌜ now (w .exit) ≡ set (set (now (w .entry)) heldAt cards) faultsHeldAt faults ⌝ }
 {
     put_word(w, layout::HELD, cards);
     put_word(w, layout::FAULTS_HELD, faults);
