@@ -40,7 +40,7 @@ use Rattle.store.specs.Plans.{Places, Plans, Holds, Paired}
 use Rattle.store.specs.Writes.{MayPlace, MayFile, MayRemove}
 use Rattle.store.specs.declared.plans.Plan.{Plan}
 use Rattle.store.specs.declared.search.Spot.{Spot}
-use Rattle.store.proofs.AlongLaws.{follow-length}
+use Rattle.store.proofs.AlongLaws.{follow-length, last-inside}
 use Rattle.store.proofs.StoredLaws.{Stored, read-store}
 use Rattle.store.proofs.FindLaws.{Behind, NotHeld, not-held, IsHeld, is-held, HeldCell, held-cell}
 use Rattle.store.proofs.ShowLaws.{faults-long}
@@ -51,12 +51,6 @@ cells-back : (w : List ℕ) (l : List ℕ) → faultCellsOf (map (readFault w) l
 unfolding readFault
 cells-back w [] = refl
 cells-back w (i ∷ l) = ap (λ (l : List ℕ). i ∷ l) (cells-back w l)
-
-last-inside : (n : ℕ) (l : List ℕ) → all (between 1 n) l ≡ true → last l ≤ n
-unfolding last
-last-inside n [] h = omega arith
-last-inside n (x ∷ []) h = between-is 1 n x .0 (both (between 1 n x) true h .0) .1
-last-inside n (x ∷ y ∷ l) h = last-inside n (y ∷ l) (both (between 1 n x) (all (between 1 n) (y ∷ l)) h .1)
 
 -- a card's history is the chain that its first-fault word leads through, and its last fault stands in a cell of it
 module _ {w : List ℕ} {s : Store} {c : Card} {after : List Card} (k : Stored w s c after) where
