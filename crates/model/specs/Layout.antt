@@ -4,12 +4,12 @@ use Prim.Native.Nat.{ℕ, zero, suc, _+_, _-_, _*_, _/_, _%_, _^_}
 use mathlib.Core.List.{List, [], _∷_, _++_, map}
 use mathlib.Core.Bool.{Bool, true, false, _&&_, _||_, cond}
 use lib.Dec.{leb, ltb, eqb}
-use lib.ListN.{length, take, drop, getD, replicate}
+use lib.ListN.{length, take, getD, replicate}
 use Rattle.rules.specs.Code.{codeOf}
 use Rattle.rules.specs.Table.{least, top, upper, lower, stateOk, addressOf}
 use Rattle.model.specs.Lists.{between, all, same, join, from, distinct}
 use Rattle.model.specs.Serial.{serialOk, validFault}
-use Rattle.model.specs.Model.{Fault, Card, Store, cards, histories, held, faultsHeld, size, bucket, cellsOf, faultCellsOf}
+use Rattle.model.specs.Model.{Fault, Card, Store, cards, held, faultsHeld, size, bucket, cellsOf, faultCellsOf}
 
 -- counts and offsets
 

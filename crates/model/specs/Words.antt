@@ -8,10 +8,9 @@ use lib.Dec.{eqb}
 use lib.ListN.{length, getD, set, replicate}
 use lib.Seq.{sets}
 use Rattle.rules.specs.Code.{codeOf}
-use Rattle.rules.specs.Table.{addressOf, splits, contracts, highMaxp, highP, lowMaxp, lowP}
-use Rattle.model.specs.Lists.{same, keep}
+use Rattle.rules.specs.Table.{splits, contracts, highMaxp, highP, lowMaxp, lowP}
 use Rattle.model.specs.Layout.{maxpAt, pAt, heldAt, faultsHeldAt, freeAt, freeFaultsAt, toNext, toFirst, toLast, toCount, toDay, toCode}
-use Rattle.model.specs.Layout.{directoryAt, segmentsAt, segmentSize, cardWidth, faultWidth, cardsAt, faultsAt, first, last, packed, cellAt, cardWord, faultWord}
+use Rattle.model.specs.Layout.{directoryAt, segmentsAt, segmentSize, cardWidth, faultWidth, cardsAt, faultsAt, last, packed, cellAt, cardWord, faultWord}
 use Rattle.model.specs.Meaning.{limitIn, faultLimitIn, bucketsIn, bucketWord, bucketCells, serialIn}
 
 -- where word k of a card cell stands, and of a fault cell in a store of c cards

@@ -11,15 +11,13 @@ use lib.Dec.{lit<}
 use lib.ListN.{length, take}
 use borrow.Author.Tests.{lt-ltb, le-ltb, ne-eqb}
 use Rattle.rules.specs.Table.{top}
-use Rattle.rules.proofs.Tests.{eq?, both}
-use Rattle.model.specs.Lists.{all, between}
+use Rattle.rules.proofs.Tests.{eq?}
 use Rattle.model.specs.Serial.{validSerial, validFault}
 use Rattle.model.specs.Model.{Fault, Card, Store, cards, held, faultsHeld, chainFor, comparisons, splitScan, contractScan, faultCellsOf, placed, grown, entered, filed, historyIn, removed, shrunk, withdrawn}
 use Rattle.model.specs.Layout.{last, follow, cardWidth, faultWidth, cardsAt, faultsAt, cardCell, cardWord, readFault, decode, encode, sound}
 use Rattle.model.specs.Meaning.{nextFault}
 use Rattle.model.specs.Words.{placeWords, fileWords, removeWords}
 use Rattle.model.specs.Calls.{Step, gives, stays, written, enterStep, fileStep, showStep, withdrawStep}
-use Rattle.model.proofs.Lists.{between-is}
 use Rattle.model.proofs.Fair.{one, filings, card-count, faults-total, fault-count}
 use Rattle.model.proofs.Sums.{length-total}
 use Rattle.model.proofs.Rep.{Rep, rep-words, size-top}

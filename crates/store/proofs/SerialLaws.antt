@@ -1,15 +1,15 @@
 -- A serial that travels is valid where each of its bytes fits its place: `valid-fits`. The loop goes by `fits-more`, what is left to test.
 use mathlib.Core.Path.{_≡_, refl, sym, ap, _∙_}
-use mathlib.Core.Bool.{Bool, true, false, _&&_, cond}
-use mathlib.Core.List.{List, [], _∷_, _++_}
-use Prim.Native.Nat.{ℕ, zero, suc, _+_, _-_, _≤_, _<_}
+use mathlib.Core.Bool.{Bool, true, false, _&&_}
+use mathlib.Core.List.{List, [], _∷_}
+use Prim.Native.Nat.{ℕ, zero, suc, _+_, _≤_, _<_}
 use native.Mathlib.Omega.{arith}
 use native.Mathlib.Numerals.{add-one}
 use lib.Dec.{eqb, ltb}
 use lib.ListN.{length, take, drop, getD, drop-of-length-le}
 use lib.Seq.{drop-cons, length-take-le, take-all}
 use borrow.Author.Tests.{ltb-true, ltb-false, eq-eqb, ne-eqb}
-use Rattle.rules.proofs.Tests.{by-cases, all-of}
+use Rattle.rules.proofs.Tests.{by-cases}
 use Rattle.model.specs.Lists.{between, all}
 use Rattle.model.specs.Serial.{allowed, serialOk, validSerial}
 use Rattle.model.proofs.Lists.{between-is}

@@ -1,5 +1,4 @@
 -- `serial::byte_fits` meets its contract: allowed before the length, zero from there on.
-use mathlib.Core.Path.{sym, _∙_}
 use borrow.Author.Tests.{lt-ltb, le-ltb}
 use Rattle.store.specs.Cells.{byteFits}
 use Rattle.store.proofs.serial.byte_fits.Statement.{statement}

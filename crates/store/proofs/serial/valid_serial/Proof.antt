@@ -1,12 +1,10 @@
 -- `serial::valid_serial` meets its contract: with a length within 1 to 16 the serial is valid where each byte fits its place, and the loop's
 -- invariant is that what is left to test decides.
 use mathlib.Core.Path.{_≡_, refl, sym, _∙_}
-use mathlib.Core.Bool.{true}
 use Prim.Native.Nat.{_≤_, _-_}
 use native.Mathlib.Omega.{arith}
 use borrow.Author.Tests.{not-true, not-false}
 use lib.ListN.{drop}
-use Rattle.store.specs.Cells.{byteFits}
 use Rattle.store.proofs.SerialLaws.{fitsFrom, fits-more, fits-stop, fits-end, valid-fits, short-invalid, long-invalid}
 use Rattle.store.proofs.serial.valid_serial.Statement.{statement}
 use Rattle.store.proofs.serial.valid_serial.Tie as tie
