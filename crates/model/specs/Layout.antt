@@ -4,17 +4,70 @@ use Prim.Native.Nat.{ℕ, zero, suc, _+_, _-_, _*_, _/_, _%_, _^_}
 use mathlib.Core.List.{List, [], _∷_, _++_, map}
 use mathlib.Core.Bool.{Bool, true, false, _&&_, _||_, cond}
 use lib.Dec.{leb, ltb, eqb}
-use lib.ListN.{length, take, drop, getD, replicate}
+use lib.ListN.{length, take, getD, replicate}
 use Rattle.rules.specs.Code.{codeOf}
 use Rattle.rules.specs.Table.{least, top, upper, lower, stateOk, addressOf}
 use Rattle.model.specs.Lists.{between, all, same, join, from, distinct}
 use Rattle.model.specs.Serial.{serialOk, validFault}
-use Rattle.model.specs.Model.{Fault, Card, Store, cards, histories, held, faultsHeld, size, bucket, cellsOf, faultCellsOf}
+use Rattle.model.specs.Model.{Fault, Card, Store, cards, held, faultsHeld, size, bucket, cellsOf, faultCellsOf}
 
 -- counts and offsets
 
+-- words 0 to 2 of the header: format 1, C, F
+abbrev pub formatAt : ℕ
+formatAt = 0
+
+abbrev pub limitAt : ℕ
+limitAt = 1
+
+abbrev pub faultLimitAt : ℕ
+faultLimitAt = 2
+
 abbrev pub format : ℕ
 format = 1
+
+-- words 3 to 6: maxp, p, cards held, faults held
+abbrev pub maxpAt : ℕ
+maxpAt = 3
+
+abbrev pub pAt : ℕ
+pAt = 4
+
+abbrev pub heldAt : ℕ
+heldAt = 5
+
+abbrev pub faultsHeldAt : ℕ
+faultsHeldAt = 6
+
+-- words 7 and 8: first free card cell, first free fault cell
+abbrev pub freeAt : ℕ
+freeAt = 7
+
+abbrev pub freeFaultsAt : ℕ
+freeFaultsAt = 8
+
+-- words 9 to 13: offset of directory, segments, cards, faults; whole length
+abbrev pub directoryOffsetAt : ℕ
+directoryOffsetAt = 9
+
+abbrev pub segmentsOffsetAt : ℕ
+segmentsOffsetAt = 10
+
+abbrev pub cardsOffsetAt : ℕ
+cardsOffsetAt = 11
+
+abbrev pub faultsOffsetAt : ℕ
+faultsOffsetAt = 12
+
+abbrev pub wholeLengthAt : ℕ
+wholeLengthAt = 13
+
+-- words 14 and 15: 0
+abbrev pub firstZeroAt : ℕ
+firstZeroAt = 14
+
+abbrev pub lastZeroAt : ℕ
+lastZeroAt = 15
 
 -- the highest card limit and fault limit
 abbrev pub mostCards : ℕ
@@ -49,6 +102,35 @@ faultsAt c = cardsAt + cardWidth * c
 -- the whole length
 unfoldable pub lengthFor : ℕ → ℕ → ℕ
 lengthFor c f = faultsAt c + faultWidth * f
+
+-- the words of a card cell: next, serial length, four words of serial from `toSerial` on, first fault, last fault, fault count
+abbrev pub toNext : ℕ
+toNext = 0
+
+abbrev pub toLength : ℕ
+toLength = 1
+
+abbrev pub toSerial : ℕ
+toSerial = 2
+
+abbrev pub serialWords : ℕ
+serialWords = 4
+
+abbrev pub toFirst : ℕ
+toFirst = 6
+
+abbrev pub toLast : ℕ
+toLast = 7
+
+abbrev pub toCount : ℕ
+toCount = 8
+
+-- the words of a fault cell: next, at the same place as in a card cell, day, code
+abbrev pub toDay : ℕ
+toDay = 1
+
+abbrev pub toCode : ℕ
+toCode = 2
 
 -- C is 1 to 1,024, F is 1 to 2,048
 unfoldable pub limitsOk : ℕ → ℕ → Bool
@@ -159,32 +241,34 @@ unfoldable pub cardWord : List ℕ → ℕ → ℕ → ℕ
 cardWord w i k = getD w (cellAt cardsAt cardWidth i k) 0
 
 unfoldable pub faultWord : List ℕ → ℕ → ℕ → ℕ
-faultWord w i k = getD w (cellAt (faultsAt (getD w 1 0)) faultWidth i k) 0
+faultWord w i k = getD w (cellAt (faultsAt (getD w limitAt 0)) faultWidth i k) 0
 
 unfoldable pub readFault : List ℕ → ℕ → Fault
-readFault w i = record { at = i; day = faultWord w i 1; code = faultWord w i 2 }
+readFault w i = record { at = i; day = faultWord w i toDay; code = faultWord w i toCode }
 
 unfoldable pub readCard : List ℕ → ℕ → Card
 readCard w i =
     record {
       at = i;
-      serial = take (cardWord w i 1) (bytesOf (cardWord w i 2) ++ (bytesOf (cardWord w i 3) ++ (bytesOf (cardWord w i 4) ++ bytesOf (cardWord w i 5))));
-      faults = map (readFault w) (follow (getD w 2 0) (λ k. faultWord w k 0) (cardWord w i 6));
+      serial =
+          take (cardWord w i toLength)
+          (bytesOf (cardWord w i toSerial) ++ (bytesOf (cardWord w i (toSerial + 1)) ++ (bytesOf (cardWord w i (toSerial + 2)) ++ bytesOf (cardWord w i (toSerial + 3)))));
+      faults = map (readFault w) (follow (getD w faultLimitAt 0) (λ k. faultWord w k toNext) (cardWord w i toFirst));
     }
 
 unfoldable pub readChain : List ℕ → ℕ → List Card
-readChain w b = map (readCard w) (follow (getD w 1 0) (λ k. cardWord w k 0) (getD w (segmentsAt + b) 0))
+readChain w b = map (readCard w) (follow (getD w limitAt 0) (λ k. cardWord w k toNext) (getD w (segmentsAt + b) 0))
 
 unfoldable pub decode : List ℕ → Store
 decode w =
     record {
-      limit = getD w 1 0;
-      faultLimit = getD w 2 0;
-      maxp = getD w 3 0;
-      p = getD w 4 0;
-      buckets = map (readChain w) (from 0 (getD w 3 0 + getD w 4 0));
-      free = follow (getD w 1 0) (λ k. cardWord w k 0) (getD w 7 0);
-      freeFaults = follow (getD w 2 0) (λ k. faultWord w k 0) (getD w 8 0);
+      limit = getD w limitAt 0;
+      faultLimit = getD w faultLimitAt 0;
+      maxp = getD w maxpAt 0;
+      p = getD w pAt 0;
+      buckets = map (readChain w) (from 0 (getD w maxpAt 0 + getD w pAt 0));
+      free = follow (getD w limitAt 0) (λ k. cardWord w k toNext) (getD w freeAt 0);
+      freeFaults = follow (getD w faultLimitAt 0) (λ k. faultWord w k toNext) (getD w freeFaultsAt 0);
     }
 
 -- soundness
@@ -228,4 +312,4 @@ soundIf false w = false
 soundIf true w = good (decode w) && same (encode (decode w)) w
 
 unfoldable pub sound : List ℕ → Bool
-sound w = soundIf (stateOk (getD w 3 0) (getD w 4 0) && limitsOk (getD w 1 0) (getD w 2 0)) w
+sound w = soundIf (stateOk (getD w maxpAt 0) (getD w pAt 0) && limitsOk (getD w limitAt 0) (getD w faultLimitAt 0)) w

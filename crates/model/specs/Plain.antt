@@ -1,7 +1,7 @@
 -- The plain list of cards, keyed by the exact bytes of the serial: what demand 2 holds each answer to.
 use Prim.Native.Nat.{ℕ, _+_, _*_}
 use mathlib.Core.List.{List, [], _∷_, _++_, map}
-use mathlib.Core.Bool.{Bool, true, false, not, cond}
+use mathlib.Core.Bool.{not, cond}
 use lib.Dec.{ltb, eqb}
 use lib.ListN.{length, take, drop}
 use Rattle.model.specs.Lists.{same, keep, total}

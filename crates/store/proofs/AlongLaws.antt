@@ -1,6 +1,7 @@
 -- A loop that goes along a chain that ends (`Ends`). What it keeps is one record, `Along`: the cells that are left lead on from here, and what
--- they give is what the whole chain gives. Each turn is `along-next`, or `along-stop` where the loop returns; `along-end` is the end.
-use mathlib.Core.Path.{_≡_, sym, _∙_}
+-- they give is what the whole chain gives. Each turn is `along-next`, or `along-stop` where the loop returns; `along-end` is the end. A loop
+-- that keeps the last cell starts with 0, for none (`last-after-none`).
+use mathlib.Core.Path.{_≡_, refl, sym, _∙_}
 use mathlib.Core.Bool.{true}
 use mathlib.Core.List.{List, [], _∷_}
 use Prim.Native.Nat.{ℕ, zero, suc, _+_, _≤_, _<_}
@@ -9,7 +10,7 @@ use lib.Dec.{eqb}
 use lib.ListN.{length}
 use Rattle.rules.proofs.Tests.{by-cases, both}
 use Rattle.model.specs.Lists.{between, all}
-use Rattle.model.specs.Layout.{follow}
+use Rattle.model.specs.Layout.{last, follow}
 use Rattle.model.specs.Meaning.{Leads}
 use Rattle.model.proofs.Lists.{between-is}
 use Rattle.store.specs.Search.{Ends}
@@ -26,6 +27,18 @@ pub follow-length : (limit : ℕ) (next : ℕ → ℕ) (h : ℕ) → length (fol
 unfolding follow
 follow-length zero next h = omega arith
 follow-length (suc limit) next h = by-cases (eqb h 0) (λ e. rw e (omega arith)) (λ e. rw e (omega (arith, follow-length limit next (next h))))
+
+-- the last of some cells, and of the same behind none
+pub last-after-none : (l : List ℕ) → last (0 ∷ l) ≡ last l
+unfolding last
+last-after-none [] = refl
+last-after-none (x ∷ l) = refl
+
+pub last-inside : (n : ℕ) (l : List ℕ) → all (between 1 n) l ≡ true → last l ≤ n
+unfolding last
+last-inside n [] h = omega arith
+last-inside n (x ∷ []) h = between-is 1 n x .0 (both (between 1 n x) true h .0) .1
+last-inside n (x ∷ y ∷ l) h = last-inside n (y ∷ l) (both (between 1 n x) (all (between 1 n) (y ∷ l)) h .1)
 
 pub along-start : {A : Type 0} {limit : ℕ} {next : ℕ → ℕ} {first : ℕ} {answer : A} (left : List ℕ → A) → Ends limit next first → left (follow limit next first) ≡ answer
     → Along limit next first answer first 0 left

@@ -8,9 +8,9 @@ use lib.ListN.{length}
 use borrow.Author.Tests.{lt-ltb, le-ltb}
 use Rattle.model.specs.Model.{Store}
 use Rattle.model.specs.Layout.{decode, encode, sound}
-use Rattle.model.specs.Calls.{Step, scratchNeed, cleaned, call, enterStep, fileStep, withdrawStep}
+use Rattle.model.specs.Calls.{Step, scratchNeed, cleaned, call, enterStep, fileStep, showStep, withdrawStep}
 use Rattle.model.proofs.Sound.{sound-good}
-use Rattle.model.proofs.Cases.{enter-cases, file-cases, withdraw-cases}
+use Rattle.model.proofs.Cases.{enter-cases, file-cases, show-cases, withdraw-cases}
 use Rattle.store.specs.Leaves.{Gives, Leaves, Does}
 use Rattle.store.specs.Plans.{Plans}
 use Rattle.store.specs.declared.plans.Plan.{Plan}
@@ -77,6 +77,21 @@ module _ (w : List ℕ) (e : sound w ≡ true) (bytes : List ℕ) (n : ℕ) wher
     pub file-done : {words : List ℕ} → words ≡ encode (fileStep (decode w) bytes n day code .store)
         → Does (fileStep (decode w) bytes n day code) (r .number) (r .comparisons) (r .scanned) (r .faults) words []
     file-done l = plan-done p l (sym file-room)
+
+  module _ (room : List ℕ) {r : Plan} (p : Plans (showStep (decode w) bytes n room .answer) (decode w) bytes n r) where
+    show-stays : showStep (decode w) bytes n room .store ≡ decode w
+    show-stays = show-cases (decode w) (sound-good w e .0) bytes n (λ t. t .store ≡ decode w) room (λ v. refl) (λ v l. refl) (λ v l b. refl) (λ v l b. refl)
+
+    room-stays : (showStep (decode w) bytes n room .answer .number ≡ 0 → ⊥) → showStep (decode w) bytes n room .room ≡ room
+    room-stays = show-cases (decode w) (sound-good w e .0) bytes n (λ t. (t .answer .number ≡ 0 → ⊥) → t .room ≡ room) room
+        (λ v z. refl) (λ v l z. refl) (λ v l b z. refl) (λ v l b z. absurd (z refl))
+
+    pub show-refused : (r .number ≡ 0 → ⊥) → Does (showStep (decode w) bytes n room) (r .number) (r .comparisons) (r .scanned) (r .faults) w room
+    show-refused z = plan-done p (words-stay show-stays) (sym (room-stays (λ k. z (p .answer .number-is ∙ k))))
+
+    pub show-done : {left : List ℕ} → left ≡ showStep (decode w) bytes n room .room
+        → Does (showStep (decode w) bytes n room) (r .number) (r .comparisons) (r .scanned) (r .faults) w left
+    show-done l = plan-done p (words-stay show-stays) l
 
   module _ (room : List ℕ) {r : Plan} (p : Plans (withdrawStep (decode w) bytes n room .answer) (decode w) bytes n r) where
     withdraw-stays : (withdrawStep (decode w) bytes n room .answer .number ≡ 0 → ⊥) → (withdrawStep (decode w) bytes n room .store ≡ decode w) × (withdrawStep (decode w) bytes n room .room ≡ room)

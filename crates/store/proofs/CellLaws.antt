@@ -1,16 +1,16 @@
 -- Laws of the words of cells and of the tests on them, that the functions of `cells` rest on.
-use mathlib.Core.Path.{_≡_, refl, sym, ap, _∙_}
+use mathlib.Core.Path.{_≡_, refl, ap}
 use mathlib.Core.Bool.{Bool, true, false, cond}
 use mathlib.Core.List.{List}
-use Prim.Native.Nat.{ℕ, zero, suc, _+_, _-_, _*_, _≤_, _<_}
+use Prim.Native.Nat.{ℕ, suc, _+_, _-_, _*_, _≤_, _<_}
 use native.Mathlib.Omega.{arith}
 use borrow.Author.Tests.{eq-eqb, ne-eqb}
 use lib.Dec.{eqb}
-use lib.ListN.{length, getD}
+use lib.ListN.{getD}
 use Rattle.rules.specs.Table.{top}
 use Rattle.model.specs.Lists.{between}
 use Rattle.model.specs.Layout.{cardsAt, faultsAt, cellAt, cardWord, faultWord}
-use Rattle.store.specs.Cells.{Sized, limitOf, widthOf, cellWord, sameKey, metFirst, freeFits}
+use Rattle.store.specs.Cells.{Sized, widthOf, cellWord, sameKey, metFirst, freeFits}
 use Rattle.store.specs.Checker.{reachOf}
 use Rattle.store.proofs.Rows.{testFrom}
 

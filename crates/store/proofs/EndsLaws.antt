@@ -17,7 +17,6 @@ use Rattle.model.proofs.Sums.{count, bit-same, bit-other}
 use Rattle.model.proofs.Walks.{times-count, every-in, in-every, all-every, led-follow}
 use Rattle.store.specs.Search.{Ends}
 use Rattle.store.proofs.AlongLaws.{follow-length}
-use Rattle.store.proofs.Walking.{lastOr, last-or}
 
 -- cells among 1 to the limit
 inside-in : (limit : ℕ) (l : List ℕ) → all (between 1 limit) l ≡ true → (i : ℕ) → 0 < count i l → (1 ≤ i) × (i ≤ limit)
@@ -100,10 +99,3 @@ ends-apart {limit} {next} {h} e some =
     let l = follow limit next (next h) in
     ⊎-elim (λ (p : 0 < count h l). absurd (omega (arith, not-longer limit next l (next h) refl (ends-on e some .1) h p, ends-less e some)))
     (λ (p : count h l ≤ 0). omega arith) (lt? 0 (count h l))
-
-pub last-to : {limit : ℕ} {next : ℕ → ℕ} {h : ℕ} → Ends limit next h → last (follow limit next h) ≤ limit
-last-to {limit} {next} {h} e = omega (arith, last-or (follow limit next h), go 0 (follow limit next h) (omega arith) (e .inside))
-  where
-    go : (d : ℕ) (l : List ℕ) → d ≤ limit → all (between 1 limit) l ≡ true → lastOr d l ≤ limit
-    go d [] z a = z
-    go d (x ∷ l) z a = let b = both (between 1 limit x) (all (between 1 limit) l) a in go x l (between-is 1 limit x .0 (b .0) .1) (b .1)

@@ -4,7 +4,7 @@
 use mathlib.Core.Path.{_≡_, refl, sym, ap, subst, _∙_}
 use mathlib.Core.Bool.{true, false}
 use mathlib.Core.List.{List, [], _∷_, _++_, map, append-assoc, append-nil}
-use Prim.Native.Nat.{ℕ, zero, suc, _+_, _*_, _≤_, _<_}
+use Prim.Native.Nat.{ℕ, suc, _+_, _*_, _≤_, _<_}
 use native.Mathlib.Omega.{arith}
 use lib.Dec.{eqb, ltb, lit<}
 use lib.ListN.{length, getD, take}
@@ -30,6 +30,7 @@ use Rattle.store.specs.Cells.{Read, packedAll}
 use Rattle.store.specs.Search.{Ends, hasKey, searchIn, searched, Finds, faultsFrom}
 use Rattle.store.specs.declared.search.Found.{Found}
 use Rattle.store.specs.declared.search.Spot.{Spot}
+use Rattle.store.proofs.AlongLaws.{last-after-none}
 use Rattle.store.proofs.SearchLaws.{search-none, search-hit, search-on}
 use Rattle.store.proofs.StoredLaws.{Stored, stored, bucket-ends, bucket-cells, bucket-stand, read-store}
 
@@ -112,11 +113,6 @@ search-is w y key len (c ∷ cs) n prev k h =
     (λ e. let g : n + 1 + (length (before y cs) + length (found y cs)) ≡ n + (suc (length (before y cs)) + length (found y cs)) = omega arith in
     search-on w len key (c .at) n prev (k .0 ∙ e) (cellsOf cs) ∙ search-is w y key len cs (n + 1) (c .at) (k .1) (rw e at h) ∙ rw (e, g))
 
-last-or : (l : List ℕ) → last (0 ∷ l) ≡ last l
-unfolding last
-last-or [] = refl
-last-or (x ∷ l) = refl
-
 -- what a search of the serial's bucket finds is what the store holds
 pub search-finds : {w : List ℕ} {s : Store} → Rep w s → (bytes : List ℕ) (n : ℕ) → validSerial bytes n ≡ true → (b : ℕ) (r : Found) → b ≡ addressIn s (take n bytes)
     → r ≡ searched (s .limit) w (getD w (segmentsAt + b) 0) n (packedAll bytes)
@@ -134,7 +130,7 @@ search-finds {w} {s} r bytes n v b o eb eo =
       held-is = ap (λ (o : Found). o .held) f;
       place-is = ap (λ (o : Found). o .place) f ∙ omega arith;
       cell-is = ap (λ (o : Found). o .cell) f;
-      prev-is = ap (λ (o : Found). o .prev) f ∙ last-or (cellsOf (before y chain));
+      prev-is = ap (λ (o : Found). o .prev) f ∙ last-after-none (cellsOf (before y chain));
     }
 
 -- the last of some cards, in a chain before some others: where prev is its cell, these cards end with it

@@ -143,9 +143,6 @@ segments-fresh c f n e = ap (λ (m : ℕ). replicate m 0) e
 pub head-length : (s : Store) → length (header s ++ directory s) ≡ segmentsAt
 head-length s = length-append (header s) (directory s) ∙ omega (arith, header-length s, directory-length s)
 
-pub segments-length : (c f : ℕ) → length (segments (fresh c f)) ≡ top
-segments-length c f = ap length (sym (segments-fresh c f top refl)) ∙ length-replicate {A = ℕ} top 0
-
 -- cell i of the free cells a to n, in a chain and behind it other cells
 words-at : (width n a m i : ℕ) (xs : List Cell) → a + m ≡ n + 1 → a ≤ i → i ≤ n
     → wordsOf (chained 0 (map (freeCell width) (from a m)) ++ xs) i ≡ leading width (behind n i)

@@ -28,6 +28,7 @@ pub mod ClearLaws
 pub mod SearchLaws
 pub mod StoredLaws
 pub mod FindLaws
+-- Pairs written along a history
 pub mod ShowLaws
 -- What the contracts admit, and what they do not
 pub mod OneOutcome

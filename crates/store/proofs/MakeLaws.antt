@@ -1,5 +1,6 @@
 -- What a plan that goes ahead makes of sound words: the places of the plan are those that the writers ask for (`may-place`, `may-file`,
--- `may-remove`), and the words that they leave are those of the step's store (`made-enter`, `made-file`, `made-withdraw`).
+-- `may-remove`), and the words that they leave are those of the step's store (`made-enter`, `made-file`, `made-withdraw`). A room for pairs
+-- holds those of the card (`show-holds`, `withdraw-holds`), and with them it is that of the step (`show-room`, `withdraw-room`).
 use mathlib.Core.Path.{_≡_, refl, sym, ap, _∙_}
 use mathlib.Core.Logic.{⊎-elim}
 use mathlib.Core.Bool.{Bool, true, false}
@@ -10,15 +11,13 @@ use lib.Dec.{lit<}
 use lib.ListN.{length, take}
 use borrow.Author.Tests.{lt-ltb, le-ltb, ne-eqb}
 use Rattle.rules.specs.Table.{top}
-use Rattle.rules.proofs.Tests.{eq?, both}
-use Rattle.model.specs.Lists.{all, between}
+use Rattle.rules.proofs.Tests.{eq?}
 use Rattle.model.specs.Serial.{validSerial, validFault}
 use Rattle.model.specs.Model.{Fault, Card, Store, cards, held, faultsHeld, chainFor, comparisons, splitScan, contractScan, faultCellsOf, placed, grown, entered, filed, historyIn, removed, shrunk, withdrawn}
 use Rattle.model.specs.Layout.{last, follow, cardWidth, faultWidth, cardsAt, faultsAt, cardCell, cardWord, readFault, decode, encode, sound}
 use Rattle.model.specs.Meaning.{nextFault}
 use Rattle.model.specs.Words.{placeWords, fileWords, removeWords}
 use Rattle.model.specs.Calls.{Step, gives, stays, written, enterStep, fileStep, showStep, withdrawStep}
-use Rattle.model.proofs.Lists.{between-is}
 use Rattle.model.proofs.Fair.{one, filings, card-count, faults-total, fault-count}
 use Rattle.model.proofs.Sums.{length-total}
 use Rattle.model.proofs.Rep.{Rep, rep-words, size-top}
@@ -39,7 +38,7 @@ use Rattle.store.specs.Plans.{Places, Plans, Holds, Paired}
 use Rattle.store.specs.Writes.{MayPlace, MayFile, MayRemove}
 use Rattle.store.specs.declared.plans.Plan.{Plan}
 use Rattle.store.specs.declared.search.Spot.{Spot}
-use Rattle.store.proofs.AlongLaws.{follow-length}
+use Rattle.store.proofs.AlongLaws.{follow-length, last-inside}
 use Rattle.store.proofs.StoredLaws.{Stored, read-store}
 use Rattle.store.proofs.FindLaws.{Behind, NotHeld, not-held, IsHeld, is-held, HeldCell, held-cell}
 use Rattle.store.proofs.ShowLaws.{faults-long}
@@ -50,12 +49,6 @@ cells-back : (w : List ℕ) (l : List ℕ) → faultCellsOf (map (readFault w) l
 unfolding readFault
 cells-back w [] = refl
 cells-back w (i ∷ l) = ap (λ (l : List ℕ). i ∷ l) (cells-back w l)
-
-last-inside : (n : ℕ) (l : List ℕ) → all (between 1 n) l ≡ true → last l ≤ n
-unfolding last
-last-inside n [] h = omega arith
-last-inside n (x ∷ []) h = between-is 1 n x .0 (both (between 1 n x) true h .0) .1
-last-inside n (x ∷ y ∷ l) h = last-inside n (y ∷ l) (both (between 1 n x) (all (between 1 n) (y ∷ l)) h .1)
 
 -- a card's history is the chain that its first-fault word leads through, and its last fault stands in a cell of it
 module _ {w : List ℕ} {s : Store} {c : Card} {after : List Card} (k : Stored w s c after) where

@@ -14,7 +14,7 @@ use Rattle.rules.proofs.States.{state-of}
 use Rattle.model.specs.Lists.{from}
 use Rattle.model.specs.Calls.{scratchNeed}
 use Rattle.store.specs.Cells.{Read, limitOf, cellFits}
-use Rattle.store.specs.Walk.{Out, Tot, walkOf, walksFrom, Did, DidAll}
+use Rattle.store.specs.Walk.{walkOf, walksFrom, Did, DidAll}
 use Rattle.store.specs.Checker.{limitsFit, frontFits, nextIn, startOf, baseOf, reachOf, chainCount, chainsOf, freeOf, heldWord, partOf, DidPart, checked, DidCheck}
 use Rattle.store.proofs.WalkLaws.{Kept}
 use Rattle.store.proofs.PartLaws.{marks-fit, kept-part}

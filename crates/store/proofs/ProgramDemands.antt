@@ -1,18 +1,18 @@
 -- Demands 2 and 3 of the program itself, over every sequence of its calls after an accepted Open. A call that meets its contract gives and
 -- leaves what the model says, by equations; so a sequence of calls that meet theirs is the model's sequence (`same-words`, `same-events`,
 -- `same-tells`), and the model's theorems hold of it.
-use mathlib.Core.Path.{_≡_, refl, sym, ap, _∙_, subst}
+use mathlib.Core.Path.{_≡_, refl, sym, ap, _∙_}
 use mathlib.Core.Bool.{true, cond}
-use mathlib.Core.List.{List, [], _∷_, _++_, map}
+use mathlib.Core.List.{List, [], _∷_, map}
 use Prim.Native.Nat.{ℕ}
 use lib.Dec.{eqb}
 use Rattle.model.specs.Layout.{decode, sound}
 use Rattle.model.specs.Calls.{openCall}
 use Rattle.model.specs.Plain.{Book}
-use Rattle.model.specs.Runs.{Act, Call, Call.opening, Call.acting, wordsAfter, run, Event, Event.opened, eventsOf, events, Tell, tellOf, tells, bookAfter, bookTells}
+use Rattle.model.specs.Runs.{Call, Call.opening, Call.acting, wordsAfter, run, Event.opened, eventsOf, events, tellOf, tells, bookAfter, bookTells}
 use Rattle.model.proofs.Demand2.{Agrees, bookOf, emptyBook}
 use Rattle.model.proofs.Demands.{Demand3, Demand2, demand3, demand2, demand2-from}
-use Rattle.store.specs.Leaves.{Opens, Leaves}
+use Rattle.store.specs.Leaves.{Opens}
 use Rattle.store.specs.Sequences.{Given, Made, Meets, AllMeet, endWords, seen, seenOf, toldOf}
 
 -- the calls alone

@@ -1,6 +1,6 @@
 -- The scan of a split or of a contraction, read off the store before the change: the new card, or the withdrawn one, counts where its bucket
 -- is the one that is scanned (`grow-scan`, `shrink-scan`).
-use mathlib.Core.Path.{_≡_, refl, sym, ap, _∙_}
+use mathlib.Core.Path.{_≡_, refl, sym}
 use mathlib.Core.Bool.{cond}
 use mathlib.Core.Logic.{⊎-elim}
 use mathlib.Core.List.{List, [], _∷_, _++_}
@@ -8,9 +8,9 @@ use Prim.Native.Nat.{ℕ, _+_, _-_}
 use native.Mathlib.Omega.{arith}
 use borrow.Author.Tests.{eq-eqb, ne-eqb}
 use lib.Dec.{eqb}
-use lib.ListN.{length, getD, set, length-append}
+use lib.ListN.{length, length-append}
 use Rattle.rules.proofs.Tests.{eq?}
-use Rattle.model.specs.Model.{Store, Card, cards, held, size, bucket, addressIn, chainFor, is, newCard, placed, removed, without, splitScan, contractScan}
+use Rattle.model.specs.Model.{Store, cards, held, size, bucket, addressIn, chainFor, is, newCard, placed, removed, without, splitScan, contractScan}
 use Rattle.model.proofs.Lists.{getD-set}
 use Rattle.model.proofs.Sums.{length-total, total-keep}
 use Rattle.model.proofs.Fair.{Fair, one}

@@ -1,5 +1,5 @@
--- What a reader of words that stand for a store (`Rep w s`) finds there: its limits (`rep-sized`), every bucket's chain to its end
--- (`bucket-ends`, `bucket-cells`), and each card of a chain with its cell's words and its history (`Stored`, by `stored`).
+-- What a reader of words that stand for a store (`Rep w s`) finds there: every bucket's chain to its end (`bucket-ends`, `bucket-cells`),
+-- and each card of a chain with its cell's words and its history (`Stored`, by `stored`).
 use mathlib.Core.Path.{_≡_, refl, sym, ap, subst, _∙_}
 use mathlib.Core.Bool.{true}
 use mathlib.Core.List.{List, [], _∷_, _++_, map}
@@ -10,18 +10,18 @@ use lib.ListN.{length, getD, length-map}
 use Rattle.rules.proofs.Tests.{all-of}
 use Rattle.model.specs.Lists.{between, all, join, total}
 use Rattle.model.specs.Model.{Fault, Card, Store, cards, bucket, cellsOf, faultCellsOf}
-use Rattle.model.specs.Layout.{Cell, atsOf, headOr, chained, cardWidth, faultWidth, segmentsAt, cardsAt, faultsAt, lengthFor, first, last, follow, cardCell, faultCell, cardChains, faultChains, front, cardWord, faultWord, readCard, readChain, decode}
+use Rattle.model.specs.Layout.{Cell, atsOf, headOr, chained, cardWidth, faultWidth, segmentsAt, cardsAt, faultsAt, first, last, follow, cardCell, faultCell, cardChains, faultChains, front, cardWord, faultWord, readCard, readChain, decode}
 use Rattle.model.specs.Meaning.{Leads, nextCard, nextFault}
 use Rattle.model.proofs.Lists.{between-is, map-append, Every, every-parts, every-join}
 use Rattle.model.proofs.Sums.{bit, bit-same, total-append, total-one}
 use Rattle.model.proofs.Each.{many, Each}
 use Rattle.model.proofs.Chains.{Memory, Stand, stand-parts, chained-append}
 use Rattle.model.proofs.Part.{cellIn, Held, held-follow}
-use Rattle.model.proofs.Fair.{inCell, limits-of, card-cells}
+use Rattle.model.proofs.Fair.{inCell, card-cells}
 use Rattle.model.proofs.Rep.{Rep, rep-front, size-top}
 use Rattle.model.proofs.Decode.{head-faults, segment-at, limit-at, fault-limit-at, cards-at, read-chain}
 use Rattle.model.proofs.Split.{ats-cards}
-use Rattle.store.specs.Cells.{Sized, Read}
+use Rattle.store.specs.Cells.{Read}
 use Rattle.store.specs.Search.{Ends, faultsFrom}
 
 -- chains of any cells
@@ -55,14 +55,6 @@ pub record Stored (w : List ℕ) (s : Store) (c : Card) (after : List Card) : Ty
   pub history-ends : Ends (s .faultLimit) (nextFault w) (cardWord w (c .at) 6)
 
 module _ {w : List ℕ} {s : Store} (r : Rep w s) where
-  -- the header
-
-  pub rep-sized : Sized w (s .limit) (s .faultLimit)
-  unfolding lengthFor faultsAt cardsAt
-  rep-sized =
-      let l = limits-of (s .limit) (s .faultLimit) (r .fair .limits) in
-      record { some = l .some; most = l .most; someFaults = l .someFaults; mostFaults = l .mostFaults; long = r .long; limit = limit-at w s r; faultLimit = fault-limit-at w s r }
-
   -- buckets
 
   module _ (b : ℕ) (h : b < length (s .buckets)) where

@@ -13,7 +13,7 @@ use Rattle.model.specs.Meaning.{bucketWord, bucketCells}
 use Rattle.model.specs.Words.{linkAt, openWords, closeWords, partWords, splitWords, joinWords}
 use Rattle.store.specs.Cells.{Read}
 use Rattle.store.specs.Table.{MayJoin, lastFrom, lastOf}
-use Rattle.store.proofs.EndsLaws.{last-to}
+use Rattle.store.proofs.AlongLaws.{last-inside}
 
 pub split-words : {w w₁ w₂ w₃ : List ℕ} {c f m p m₁ p₁ : ℕ} → Read w c f m p
     → w₁ ≡ partWords c m p w 0 0 (bucketWord w p)
@@ -31,7 +31,7 @@ low-below m p h = ⊎-elim (λ (z : p ≡ 0). omega (arith, shrunk-over m p z)) 
 module _ {w : List ℕ} {c f m p b k : ℕ} (pre : MayJoin w c f m p) (low : b ≡ lowP m p) (end : k ≡ lastFrom c w (bucketWord w b)) where
   pub join-end : k ≤ c
   unfolding lastFrom
-  join-end = rw (end, low) (last-to (pre .chain))
+  join-end = rw (end, low) (last-inside _ _ (pre .chain .inside))
 
   pub join-words : {w₁ w₂ w₃ w₄ : List ℕ} {q m₁ : ℕ}
       → q ≡ bucketWord w (m + p - 1)

@@ -21,6 +21,7 @@ use Rattle.model.proofs.Lists.{Every}
 use Rattle.model.proofs.Sums.{bit, bit-le, bit-same, bit-other, count, total-append}
 use Rattle.store.specs.Marks.{markAt, markedAt}
 use Rattle.store.specs.Walk.{numberOf, mayCome, Out, accept, walkFrom, walkOf, Start, Tot, walkOn, walksFrom}
+use Rattle.store.proofs.AlongLaws.{last-after-none}
 use Rattle.store.proofs.MarkLaws.{length-marked, marked-same, marked-other}
 use Rattle.store.proofs.WalkLaws.{may-in, may-new, may-good, tested, walk-end, walk-step, walk-all, kept-walk, walks-end, walks-bad, walks-step}
 
@@ -37,17 +38,6 @@ Apart limit l seen = (x : ℕ) → 1 ≤ x → x ≤ limit → count x l + count
 -- the marked cells are those of a list, each standing once in it
 abbrev pub Seen : ℕ → ℕ → List ℕ → List ℕ → Type 0
 Seen base limit bytes seen = (x : ℕ) → 1 ≤ x → x ≤ limit → count x seen ≡ bit (markAt bytes (numberOf base x))
-
--- the last of a list, or l
-abbrev pub lastOr : ℕ → List ℕ → ℕ
-lastOr l [] = l
-lastOr l (c ∷ cs) = lastOr c cs
-
-pub last-or : (l : List ℕ) → lastOr 0 l ≡ last l
-unfolding last
-last-or [] = refl
-last-or (x ∷ []) = refl
-last-or (x ∷ y ∷ l) = last-or (y ∷ l)
 
 module _ (next : ℕ → ℕ) (base limit : ℕ) (marks : base + limit ≤ 8 * scratchNeed) where
   -- a cell that is marked now is one more of the list
@@ -66,11 +56,12 @@ module _ (next : ℕ → ℕ) (base limit : ℕ) (marks : base + limit ≤ 8 * s
     pub runs : Runs good next limit i cells
     pub apart : Apart limit cells seen
     pub counted : o .count ≡ n + length cells
-    pub ended : o .last ≡ lastOr l cells
+    pub ended : o .last ≡ last (l ∷ cells)
     pub left : Seen base limit (o .bytes) (cells ++ seen)
 
   module _ (good : ℕ → Bool) where
     met-none : (bytes seen : List ℕ) (i n l : ℕ) → i ≡ 0 → Seen base limit bytes seen → Met good i n l [] seen (accept n l bytes)
+    unfolding last
     met-none bytes seen i n l z s =
         record {
           runs = record { leads = z; inside = tt; fine = tt };
@@ -82,6 +73,7 @@ module _ (next : ℕ → ℕ) (base limit : ℕ) (marks : base + limit ≤ 8 * s
 
     met-more : (bytes seen : List ℕ) (i n l : ℕ) (cells : List ℕ) (o : Out) → (i ≡ 0 → ⊥) → mayCome good bytes base limit i ≡ true
         → Met good (next i) (n + 1) i cells (i ∷ seen) o → Met good i n l (i ∷ cells) seen o
+    unfolding last
     met-more bytes seen i n l cells o ne ok m =
         record {
           runs = record { leads = (refl, m .runs .leads); inside = ((omega arith, may-in good base limit bytes i ok), m .runs .inside); fine = (may-good good base limit bytes i ok, m .runs .fine) };
@@ -153,7 +145,7 @@ module _ (next : ℕ → ℕ) (base limit : ℕ) (marks : base + limit ≤ 8 * s
       → s .fits (walkOn next base limit bytes s .count) (walkOn next base limit bytes s .last) ≡ s .fits (length (read next limit s)) (last (read next limit s))
   fits-is bytes s seen m =
       let c : walkOn next base limit bytes s .count ≡ length (read next limit s) = omega (arith, m .counted) in
-      let l : walkOn next base limit bytes s .last ≡ last (read next limit s) = m .ended ∙ last-or (read next limit s) in
+      let l : walkOn next base limit bytes s .last ≡ last (read next limit s) = m .ended ∙ last-after-none (read next limit s) in
       λ i. s .fits (c i) (l i)
 
   pub walks-accepted : (ss : List Start) (bytes : List ℕ) (n : ℕ) (seen : List ℕ) → scratchNeed ≤ length bytes → Seen base limit bytes seen → walksFrom next base limit ss bytes n .ok ≡ true

@@ -1,11 +1,10 @@
 -- Marks of visited cells in a list of bytes: number k has bit k % 8 of byte k / 8.
 use mathlib.Core.Bool.{Bool}
 use mathlib.Core.List.{List}
-use Prim.Native.Nat.{ℕ, _*_, _/_, _%_, _^_}
+use Prim.Native.Nat.{ℕ, _/_, _%_, _^_}
 use lib.Bits.{bitOr}
 use lib.Dec.{eqb}
 use lib.ListN.{getD, set}
-use Rattle.model.specs.Calls.{scratchNeed}
 
 -- bit j of a byte
 unfoldable pub bitOf : ℕ → ℕ → ℕ

@@ -7,7 +7,7 @@ use lib.Dec.{eqb, ltb}
 use lib.ListN.{length, getD}
 use Rattle.model.specs.Lists.{between, all, from}
 use Rattle.model.specs.Model.{Fault, Store, addressIn, chainFor, found, before, comparisons, cellsOf}
-use Rattle.model.specs.Layout.{first, last, follow, cardWord, readFault}
+use Rattle.model.specs.Layout.{toLength, toSerial, serialWords, first, last, follow, cardWord, readFault}
 use Rattle.model.specs.Meaning.{Leads, nextCard, nextFault}
 use Rattle.store.specs.declared.search.Found.{Found}
 use Rattle.store.specs.declared.search.Spot.{Spot}
@@ -19,7 +19,7 @@ pub record Ends (limit : ℕ) (next : ℕ → ℕ) (h : ℕ) : Type 0 where
 
 -- the card in cell i has this serial length and these four words of serial
 unfoldable pub hasKey : List ℕ → ℕ → ℕ → List ℕ → Bool
-hasKey w i len key = eqb (cardWord w i 1) len && all (λ k. eqb (cardWord w i (k + 2)) (getD key k 0)) (from 0 4)
+hasKey w i len key = eqb (cardWord w i toLength) len && all (λ k. eqb (cardWord w i (k + toSerial)) (getD key k 0)) (from 0 serialWords)
 
 -- the first of some cells whose card has the key, with n cells behind them, of which prev is the last
 unfoldable pub searchIn : List ℕ → ℕ → List ℕ → List ℕ → ℕ → ℕ → Found

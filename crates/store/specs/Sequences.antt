@@ -6,7 +6,7 @@ use mathlib.Core.List.{List, [], _∷_, _++_, map}
 use Prim.Native.Nat.{ℕ}
 use lib.Dec.{eqb}
 use Rattle.model.specs.Calls.{openCall}
-use Rattle.model.specs.Runs.{Act, Call, Call.opening, Call.acting, outcome, Event, Event.opened, Event.answered, Tell}
+use Rattle.model.specs.Runs.{Call, Call.opening, Call.acting, outcome, Event, Event.opened, Event.answered, Tell}
 use Rattle.store.specs.Leaves.{Opens, Leaves}
 
 -- all that a call gives and leaves; Open gives a number and leaves words, and has no more to say

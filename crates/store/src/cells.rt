@@ -1,27 +1,13 @@
 // Words of the header and of cells, read; and what a cell has to be by itself.
 ghost use mathlib.Core.Path.{_≡_};
-ghost use mathlib.Core.Bool.{Bool, cond};
-ghost use Prim.Native.Nat.{ℕ, _+_, _≤_, _<_};
+ghost use Prim.Native.Nat.{_≤_, _<_};
 ghost use lib.Dec.{eqb};
 ghost use lib.ListN.{length, getD};
 ghost use Rattle.rules.specs.Table.{top};
 ghost use Rattle.model.specs.Layout.{cardWidth, faultWidth, cardWord, faultWord};
 ghost use Rattle.store.specs.Cells.{Sized, Read, limitOf, widthOf, cellWord, sameKey, metFirst, bytesAt, freeFits, faultFits, cardFits, cellFits};
+use crate::layout;
 use crate::serial;
-
-// Where the directory, the segments and the card cells begin, and how many words a cell has.
-pub const DIRECTORY: usize = 16;
-
-pub const SEGMENTS: usize = 32;
-
-pub const CARDS: usize = 288;
-
-pub const CARD: usize = 9;
-
-pub const FAULT: usize = 3;
-
-// The most buckets; as a bucket, a free chain.
-pub const TOP: u32 = 256;
 
 // Limits and state, read once.
 pub struct Header {
@@ -57,7 +43,7 @@ pub fn card_word(w: &[u32], c: u32, f: u32, i: u32, k: usize) -> u32
     requires { ⌜ Sized (now w) c f × (1 ≤ i) × (i ≤ c) × (k < cardWidth) ⌝ }
     ensures { λ r. ⌜ r ≡ cardWord (now (w .entry)) i k ⌝ }
 {
-    w[CARDS + CARD * ((i - 1) as usize) + k]
+    w[layout::CARDS + layout::CARD * ((i - 1) as usize) + k]
 }
 
 // Word k of fault cell i.
@@ -65,7 +51,7 @@ pub fn fault_word(w: &[u32], c: u32, f: u32, i: u32, k: usize) -> u32
     requires { ⌜ Sized (now w) c f × (1 ≤ i) × (i ≤ f) × (k < faultWidth) ⌝ }
     ensures { λ r. ⌜ r ≡ faultWord (now (w .entry)) i k ⌝ }
 {
-    w[CARDS + CARD * (c as usize) + FAULT * ((i - 1) as usize) + k]
+    w[layout::CARDS + layout::CARD * (c as usize) + layout::FAULT * ((i - 1) as usize) + k]
 }
 
 // The same of either part.
@@ -83,7 +69,7 @@ pub fn cell_word(w: &[u32], c: u32, f: u32, faults: bool, i: u32, k: usize) -> u
 pub fn width_of(faults: bool) -> usize
     ensures { λ r. ⌜ r ≡ widthOf faults ⌝ }
 {
-    if faults { FAULT } else { CARD }
+    if faults { layout::FAULT } else { layout::CARD }
 }
 
 // A free cell is zero but for its next word.
@@ -107,7 +93,10 @@ fn fault_fits(w: &[u32], c: u32, f: u32, i: u32) -> bool
     requires { ⌜ Sized (now w) c f × (1 ≤ i) × (i ≤ f) ⌝ }
     ensures { λ r. ⌜ r ≡ faultFits (now (w .entry)) i ⌝ }
 {
-    serial::valid_fault(fault_word(w, c, f, i, 1), fault_word(w, c, f, i, 2))
+    serial::valid_fault(
+        fault_word(w, c, f, i, layout::DAY),
+        fault_word(w, c, f, i, layout::CODE),
+    )
 }
 
 // Whether word k of two cards is the same.
@@ -123,19 +112,19 @@ pub fn same_key(w: &[u32], c: u32, f: u32, i: u32, j: u32) -> bool
     requires { ⌜ Sized (now w) c f × (1 ≤ i) × (i ≤ c) × (1 ≤ j) × (j ≤ c) ⌝ }
     ensures { λ r. ⌜ r ≡ sameKey (now (w .entry)) i j ⌝ }
 {
-    if !same_word(w, c, f, i, j, 1) {
+    if !same_word(w, c, f, i, j, layout::LENGTH) {
         return false;
     }
-    if !same_word(w, c, f, i, j, 2) {
+    if !same_word(w, c, f, i, j, layout::SERIAL) {
         return false;
     }
-    if !same_word(w, c, f, i, j, 3) {
+    if !same_word(w, c, f, i, j, layout::SERIAL + 1) {
         return false;
     }
-    if !same_word(w, c, f, i, j, 4) {
+    if !same_word(w, c, f, i, j, layout::SERIAL + 2) {
         return false;
     }
-    same_word(w, c, f, i, j, 5)
+    same_word(w, c, f, i, j, layout::SERIAL + 3)
 }
 
 // Whether card i is met from cell `first` on before any other card with its serial.
@@ -155,7 +144,7 @@ fn met_first(w: &[u32], c: u32, f: u32, first: u32, i: u32) -> bool
         if same_key(w, c, f, j, i) {
             return false;
         }
-        j = card_word(w, c, f, j, 0);
+        j = card_word(w, c, f, j, layout::NEXT);
         n += 1;
     }
     false
@@ -166,10 +155,10 @@ pub fn bytes_at(w: &[u32], c: u32, f: u32, i: u32) -> [u8; 16]
     requires { ⌜ Sized (now w) c f × (1 ≤ i) × (i ≤ c) ⌝ }
     ensures { λ r. ⌜ r ≡ bytesAt (now (w .entry)) i ⌝ }
 {
-    let a = card_word(w, c, f, i, 2);
-    let b = card_word(w, c, f, i, 3);
-    let d = card_word(w, c, f, i, 4);
-    let e = card_word(w, c, f, i, 5);
+    let a = card_word(w, c, f, i, layout::SERIAL);
+    let b = card_word(w, c, f, i, layout::SERIAL + 1);
+    let d = card_word(w, c, f, i, layout::SERIAL + 2);
+    let e = card_word(w, c, f, i, layout::SERIAL + 3);
     serial::unpack(a, b, d, e)
 }
 
@@ -180,7 +169,7 @@ fn card_fits(w: &[u32], h: Header, b: u32, i: u32) -> bool
 {
     let c = h.cards;
     let f = h.faults;
-    let len = card_word(w, c, f, i, 1) as usize;
+    let len = card_word(w, c, f, i, layout::LENGTH) as usize;
     let bytes = bytes_at(w, c, f, i);
     if !serial::valid_serial(bytes, len) {
         return false;
@@ -189,7 +178,7 @@ fn card_fits(w: &[u32], h: Header, b: u32, i: u32) -> bool
     if rules::reader_address(code, h.maxp, h.p) != b {
         return false;
     }
-    met_first(w, c, f, word(w, SEGMENTS + b as usize), i)
+    met_first(w, c, f, word(w, layout::SEGMENTS + b as usize), i)
 }
 
 // What cell i has to be: free where b is TOP, else a fault of a history or a card of bucket b.
@@ -199,7 +188,7 @@ pub fn cell_fits(w: &[u32], h: Header, faults: bool, b: u32, i: u32) -> bool
 {
     let c = h.cards;
     let f = h.faults;
-    if b == TOP {
+    if b == layout::TOP {
         return free_fits(w, c, f, faults, i);
     }
     if faults {

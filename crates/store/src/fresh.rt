@@ -2,34 +2,34 @@
 ghost use mathlib.Core.Path.{_≡_};
 ghost use mathlib.Core.Bool.{true};
 ghost use mathlib.Core.List.{_++_};
-ghost use Prim.Native.Nat.{ℕ, _*_, _≤_, _<_};
+ghost use Prim.Native.Nat.{_*_, _<_};
 ghost use lib.ListN.{length, replicate};
 ghost use Rattle.model.specs.Model.{fresh};
-ghost use Rattle.model.specs.Layout.{segmentsAt, header, directory, limitsOk, lengthFor, encode};
+ghost use Rattle.model.specs.Layout.{directoryAt, segmentsAt, header, directory, limitsOk, lengthFor, encode};
 ghost use Rattle.store.specs.Fresh.{behind, leading, cellsTo};
-use crate::cells;
 use crate::front;
+use crate::layout;
 
 // Words 0 to 15 of a fresh store.
-fn fresh_header(c: u32, f: u32) -> [u32; 16]
+fn fresh_header(c: u32, f: u32) -> [u32; layout::HEADER]
     requires { ⌜ limitsOk c f ≡ true ⌝ }
     ensures { λ r. ⌜ r ≡ header (fresh c f) ⌝ }
 {
     let at = front::faults_at(c);
     let end = front::length_for(c, f);
     [
-        front::FORMAT,
+        layout::FORMAT,
         c,
         f,
-        front::LEAST,
+        layout::LEAST,
         0,
         0,
         0,
         1,
         1,
-        cells::DIRECTORY as u32,
-        cells::SEGMENTS as u32,
-        cells::CARDS as u32,
+        layout::DIRECTORY as u32,
+        layout::SEGMENTS as u32,
+        layout::CARDS as u32,
         at as u32,
         end as u32,
         0,
@@ -37,13 +37,13 @@ fn fresh_header(c: u32, f: u32) -> [u32; 16]
     ]
 }
 
-// Sixteen words, written whole.
-fn put_row(part: &mut [u32], row: [u32; 16])
-    requires { ⌜ length (now part) ≡ 16 ⌝ }
+// The header, written whole.
+fn put_row(part: &mut [u32], row: [u32; layout::HEADER])
+    requires { ⌜ length (now part) ≡ directoryAt ⌝ }
     ensures { λ _. ⌜ now (part .exit) ≡ row ⌝ }
 {
     let mut i: usize = 0;
-    while i < 16 {
+    while i < layout::HEADER {
         part[i] = row[i];
         i += 1;
     }
@@ -97,8 +97,8 @@ fn fill_head(part: &mut [u32], c: u32, f: u32)
     ensures { λ _. ⌜ now (part .exit) ≡ header (fresh c f) ++ directory (fresh c f) ⌝ }
 {
     let row = fresh_header(c, f);
-    put_row(&mut part[0..cells::DIRECTORY], row);
-    put_first(&mut part[cells::DIRECTORY..], cells::SEGMENTS as u32);
+    put_row(&mut part[0..layout::DIRECTORY], row);
+    put_first(&mut part[layout::DIRECTORY..], layout::SEGMENTS as u32);
 }
 
 // All words of a fresh store. Its parts are lent on one after the other, from the offsets of the layout.
@@ -107,8 +107,8 @@ pub fn fill(words: &mut [u32], c: u32, f: u32)
     ensures { λ _. ⌜ now (words .exit) ≡ encode (fresh c f) ⌝ }
 {
     let at = front::faults_at(c);
-    fill_head(&mut words[0..cells::SEGMENTS], c, f);
-    clear(&mut words[cells::SEGMENTS..cells::CARDS]);
-    fill_cells(&mut words[cells::CARDS..at], cells::CARD, c);
-    fill_cells(&mut words[at..], cells::FAULT, f);
+    fill_head(&mut words[0..layout::SEGMENTS], c, f);
+    clear(&mut words[layout::SEGMENTS..layout::CARDS]);
+    fill_cells(&mut words[layout::CARDS..at], layout::CARD, c);
+    fill_cells(&mut words[at..], layout::FAULT, f);
 }

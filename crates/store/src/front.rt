@@ -1,54 +1,41 @@
 // The words before the cells: header, directory, and bucket words past the last bucket.
 ghost use mathlib.Core.Path.{_≡_};
 ghost use mathlib.Core.Bool.{true};
-ghost use Prim.Native.Nat.{ℕ, _+_, _≤_, _<_};
+ghost use Prim.Native.Nat.{_+_, _≤_, _<_};
 ghost use lib.ListN.{length, getD};
 ghost use Rattle.rules.specs.Table.{top};
-ghost use Rattle.model.specs.Layout.{segmentsAt, limitsOk, lengthFor, faultsAt};
+ghost use Rattle.model.specs.Layout.{limitAt, faultLimitAt, segmentsAt, limitsOk, lengthFor, faultsAt};
 ghost use Rattle.store.specs.Cells.{Read};
 ghost use Rattle.store.specs.Checker.{limitsFit, endsFit, offsetsFit, loadFits, entryFor, directoryFits, restFits, tableFits, frontFits};
 use crate::cells;
 use crate::cells::Header;
+use crate::layout;
 use crate::serial;
 
-// The highest limits, and the format.
-const MOST_CARDS: u32 = 1024;
-
-const MOST_FAULTS: u32 = 2048;
-
-pub const FORMAT: u32 = 1;
-
-// Buckets of a segment, and how many segments there are.
-pub const SEGMENT: u32 = 16;
-
-const SEGMENT_COUNT: u32 = 16;
-
-// The fewest buckets, and the fewest cards a bucket above that.
-pub const LEAST: u32 = 16;
-
+// The fewest cards a bucket, where there are more buckets than the fewest.
 const LOWER: u64 = 2;
 
 // C is 1 to 1,024 and F is 1 to 2,048.
 pub fn limits_ok(c: u32, f: u32) -> bool
     ensures { λ r. ⌜ r ≡ limitsOk c f ⌝ }
 {
-    if !serial::within(1, MOST_CARDS, c) {
+    if !serial::within(1, layout::MOST_CARDS, c) {
         return false;
     }
-    serial::within(1, MOST_FAULTS, f)
+    serial::within(1, layout::MOST_FAULTS, f)
 }
 
 // Where the fault cells begin, and the whole length.
 pub fn faults_at(c: u32) -> usize
     ensures { λ r. ⌜ r ≡ faultsAt c ⌝ }
 {
-    cells::CARDS + cells::CARD * (c as usize)
+    layout::CARDS + layout::CARD * (c as usize)
 }
 
 pub fn length_for(c: u32, f: u32) -> usize
     ensures { λ r. ⌜ r ≡ lengthFor c f ⌝ }
 {
-    cells::CARDS + cells::CARD * (c as usize) + cells::FAULT * (f as usize)
+    layout::CARDS + layout::CARD * (c as usize) + layout::FAULT * (f as usize)
 }
 
 // Words 0 to 2 and the length.
@@ -56,14 +43,14 @@ fn limits_fit(w: &[u32]) -> bool
     ensures { λ r. ⌜ r ≡ limitsFit (now (w .entry)) ⌝ }
 {
     let n = w.len();
-    if n < cells::CARDS {
+    if n < layout::CARDS {
         return false;
     }
-    if cells::word(w, 0) != FORMAT {
+    if cells::word(w, layout::FORMAT_AT) != layout::FORMAT {
         return false;
     }
-    let c = cells::word(w, 1);
-    let f = cells::word(w, 2);
+    let c = cells::word(w, layout::LIMIT);
+    let f = cells::word(w, layout::FAULT_LIMIT);
     if !limits_ok(c, f) {
         return false;
     }
@@ -76,42 +63,42 @@ pub fn header(w: &[u32]) -> Header
     ensures { λ r. ⌜ Read (now (w .entry)) (r .cards) (r .faults) (r .maxp) (r .p) ⌝ }
 {
     Header {
-        cards: cells::word(w, 1),
-        faults: cells::word(w, 2),
-        maxp: cells::word(w, 3),
-        p: cells::word(w, 4),
+        cards: cells::word(w, layout::LIMIT),
+        faults: cells::word(w, layout::FAULT_LIMIT),
+        maxp: cells::word(w, layout::MAXP),
+        p: cells::word(w, layout::P),
     }
 }
 
 // Words 12 to 15.
 fn ends_fit(w: &[u32], c: u32, f: u32) -> bool
-    requires { ⌜ (segmentsAt + top ≤ length (now w)) × (getD (now w) 1 0 ≡ c) × (getD (now w) 2 0 ≡ f) ⌝ }
+    requires { ⌜ (segmentsAt + top ≤ length (now w)) × (getD (now w) limitAt 0 ≡ c) × (getD (now w) faultLimitAt 0 ≡ f) ⌝ }
     ensures { λ r. ⌜ r ≡ endsFit (now (w .entry)) ⌝ }
 {
-    if cells::wide_word(w, 12) != faults_at(c) {
+    if cells::wide_word(w, layout::FAULTS_OFFSET) != faults_at(c) {
         return false;
     }
-    if cells::wide_word(w, 13) != length_for(c, f) {
+    if cells::wide_word(w, layout::WHOLE_LENGTH) != length_for(c, f) {
         return false;
     }
-    if cells::word(w, 14) != 0 {
+    if cells::word(w, layout::FIRST_ZERO) != 0 {
         return false;
     }
-    cells::word(w, 15) == 0
+    cells::word(w, layout::LAST_ZERO) == 0
 }
 
 // Words 9 to 15.
 fn offsets_fit(w: &[u32], c: u32, f: u32) -> bool
-    requires { ⌜ (segmentsAt + top ≤ length (now w)) × (getD (now w) 1 0 ≡ c) × (getD (now w) 2 0 ≡ f) ⌝ }
+    requires { ⌜ (segmentsAt + top ≤ length (now w)) × (getD (now w) limitAt 0 ≡ c) × (getD (now w) faultLimitAt 0 ≡ f) ⌝ }
     ensures { λ r. ⌜ r ≡ offsetsFit (now (w .entry)) ⌝ }
 {
-    if cells::wide_word(w, 9) != cells::DIRECTORY {
+    if cells::wide_word(w, layout::DIRECTORY_OFFSET) != layout::DIRECTORY {
         return false;
     }
-    if cells::wide_word(w, 10) != cells::SEGMENTS {
+    if cells::wide_word(w, layout::SEGMENTS_OFFSET) != layout::SEGMENTS {
         return false;
     }
-    if cells::wide_word(w, 11) != cells::CARDS {
+    if cells::wide_word(w, layout::CARDS_OFFSET) != layout::CARDS {
         return false;
     }
     ends_fit(w, c, f)
@@ -124,7 +111,7 @@ fn load_fits(n: u32, b: u32) -> bool
     if rules::must_split(n, b) {
         return false;
     }
-    if b == LEAST {
+    if b == layout::LEAST {
         return true;
     }
     LOWER * (b as u64) <= n as u64
@@ -135,8 +122,8 @@ pub fn entry_for(b: u32, k: u32) -> u32
     requires { ⌜ k < 65536 ⌝ }
     ensures { λ r. ⌜ r ≡ entryFor b k ⌝ }
 {
-    if SEGMENT * k < b {
-        cells::SEGMENTS as u32 + SEGMENT * k
+    if layout::SEGMENT * k < b {
+        layout::SEGMENTS as u32 + layout::SEGMENT * k
     } else {
         0
     }
@@ -148,8 +135,8 @@ fn directory_fits(w: &[u32], b: u32) -> bool
     ensures { λ r. ⌜ r ≡ directoryFits (now (w .entry)) b ⌝ }
 {
     let mut k: u32 = 0;
-    while k < SEGMENT_COUNT {
-        if cells::word(w, cells::DIRECTORY + k as usize) != entry_for(b, k) {
+    while k < layout::SEGMENT_COUNT {
+        if cells::word(w, layout::DIRECTORY + k as usize) != entry_for(b, k) {
             return false;
         }
         k += 1;
@@ -163,8 +150,8 @@ fn rest_fits(w: &[u32], b: u32) -> bool
     ensures { λ r. ⌜ r ≡ restFits (now (w .entry)) b ⌝ }
 {
     let mut j = b;
-    while j < cells::TOP {
-        if cells::word(w, cells::SEGMENTS + j as usize) != 0 {
+    while j < layout::TOP {
+        if cells::word(w, layout::SEGMENTS + j as usize) != 0 {
             return false;
         }
         j += 1;
@@ -177,7 +164,7 @@ fn table_fits(w: &[u32], b: u32) -> bool
     requires { ⌜ (segmentsAt + top ≤ length (now w)) × (b ≤ top) ⌝ }
     ensures { λ r. ⌜ r ≡ tableFits (now (w .entry)) b ⌝ }
 {
-    if !load_fits(cells::word(w, 5), b) {
+    if !load_fits(cells::word(w, layout::HELD), b) {
         return false;
     }
     if !directory_fits(w, b) {

@@ -12,6 +12,7 @@ pub mod enters;
 pub mod files;
 mod fresh;
 mod front;
+mod layout;
 mod marks;
 mod parts;
 pub mod plans;

@@ -1,16 +1,17 @@
 // The two parts of the checker: the cards with their free chain, the faults with theirs.
 ghost use mathlib.Core.Path.{_≡_};
-ghost use mathlib.Core.Bool.{Bool, cond};
-ghost use Prim.Native.Nat.{ℕ, _+_, _≤_};
+ghost use mathlib.Core.Bool.{cond};
+ghost use Prim.Native.Nat.{_+_, _≤_};
 ghost use lib.ListN.{length, getD};
 ghost use Rattle.rules.specs.Table.{top};
-ghost use Rattle.model.specs.Layout.{segmentsAt};
+ghost use Rattle.model.specs.Layout.{freeAt, freeFaultsAt, segmentsAt};
 ghost use Rattle.model.specs.Calls.{scratchNeed};
 ghost use Rattle.store.specs.Cells.{Read};
-ghost use Rattle.store.specs.Checker.{heldWord, partOf, DidPart, checked, DidCheck};
+ghost use Rattle.store.specs.Checker.{heldWord, partOf, DidPart, DidCheck};
 use crate::cells;
 use crate::cells::Header;
 use crate::front;
+use crate::layout;
 use crate::walks;
 
 // How many cells a part has, the number that marks its first, and how many chains it has beside the free one.
@@ -37,12 +38,12 @@ fn chain_count(h: Header, faults: bool) -> u32
 // The first free cell of a part, and the word that says how many of its cells are held.
 fn free_word(w: &[u32], faults: bool) -> u32
     requires { ⌜ segmentsAt + top ≤ length (now w) ⌝ }
-    ensures { λ r. ⌜ r ≡ getD (now (w .entry)) (cond faults 8 7) 0 ⌝ }
+    ensures { λ r. ⌜ r ≡ getD (now (w .entry)) (cond faults freeFaultsAt freeAt) 0 ⌝ }
 {
     if faults {
-        cells::word(w, 8)
+        cells::word(w, layout::FREE_FAULTS)
     } else {
-        cells::word(w, 7)
+        cells::word(w, layout::FREE)
     }
 }
 
@@ -51,9 +52,9 @@ fn held_word(w: &[u32], faults: bool) -> u32
     ensures { λ r. ⌜ r ≡ heldWord (now (w .entry)) faults ⌝ }
 {
     if faults {
-        cells::word(w, 6)
+        cells::word(w, layout::FAULTS_HELD)
     } else {
-        cells::word(w, 5)
+        cells::word(w, layout::HELD)
     }
 }
 
@@ -65,7 +66,7 @@ pub fn part_fits(w: &[u32], scratch: &mut [u8], h: Header, faults: bool) -> bool
     let limit = limit_of(h, faults);
     let base = base_of(h, faults);
     let first = free_word(w, faults);
-    let free = walks::walk(w, scratch, h, faults, cells::TOP, base, limit, first);
+    let free = walks::walk(w, scratch, h, faults, layout::TOP, base, limit, first);
     if !free.ok {
         return false;
     }

@@ -15,6 +15,7 @@ ghost use Rattle.store.specs.Plans.{growScan, shrinkScan, refusal, ahead
 use crate::Answer;
 use crate::cells;
 use crate::cells::Header;
+use crate::layout;
 use crate::search;
 use crate::search::Spot;
 use crate::serial;
@@ -91,7 +92,7 @@ fn chain_len(w: &[u32], c: u32, f: u32, first: u32) -> u32
     let mut n: u32 = 0;
     while i != 0 {
         n += 1;
-        i = cells::card_word(w, c, f, i, 0);
+        i = cells::card_word(w, c, f, i, layout::NEXT);
     }
     n
 }
@@ -101,7 +102,7 @@ fn bucket_len(w: &[u32], h: Header, b: u32) -> u32
     requires { ⌜ (sound (now w) ≡ true) × Read (now w) (h .cards) (h .faults) (h .maxp) (h .p) × (b < h .maxp + h .p) ⌝ }
     ensures { λ r. ⌜ r ≡ length (bucket (decode (now (w .entry))) b) ⌝ }
 {
-    let first = cells::word(w, cells::SEGMENTS + b as usize);
+    let first = cells::word(w, layout::SEGMENTS + b as usize);
     chain_len(w, h.cards, h.faults, first)
 }
 
@@ -110,7 +111,7 @@ fn grow_scan(w: &[u32], h: Header, b: u32) -> u32
     requires { ⌜ (sound (now w) ≡ true) × Read (now w) (h .cards) (h .faults) (h .maxp) (h .p) ⌝ }
     ensures { λ r. ⌜ r ≡ growScan (decode (now (w .entry))) b ⌝ }
 {
-    let n = cells::word(w, 5);
+    let n = cells::word(w, layout::HELD);
     if !rules::must_split(n + 1, h.maxp + h.p) {
         return 0;
     }
@@ -130,7 +131,7 @@ fn shrink_scan(w: &[u32], h: Header, b: u32) -> u32
     requires { ⌜ (sound (now w) ≡ true) × Read (now w) (h .cards) (h .faults) (h .maxp) (h .p) ⌝ }
     ensures { λ r. ⌜ r ≡ shrinkScan (decode (now (w .entry))) b ⌝ }
 {
-    let n = cells::word(w, 5);
+    let n = cells::word(w, layout::HELD);
     let size = h.maxp + h.p;
     if !rules::must_contract(less(n), size) {
         return 0;
@@ -152,7 +153,7 @@ pub fn plan_enter(w: &[u32], serial: [u8; 16], len: usize) -> Plan
     if s.held {
         return refused(6, s.place, 0);
     }
-    if cells::word(w, 5) == h.cards {
+    if cells::word(w, layout::HELD) == h.cards {
         return refused(8, s.place, 0);
     }
     let scanned = grow_scan(w, h, s.bucket);
@@ -175,10 +176,10 @@ pub fn plan_file(w: &[u32], serial: [u8; 16], len: usize, day: u32, code: u32) -
     if !s.held {
         return refused(7, s.place, 0);
     }
-    if cells::word(w, 6) == h.faults {
+    if cells::word(w, layout::FAULTS_HELD) == h.faults {
         return refused(9, s.place, 0);
     }
-    let n = cells::card_word(w, h.cards, h.faults, s.cell, 8);
+    let n = cells::card_word(w, h.cards, h.faults, s.cell, layout::COUNT);
     accepted(s, 0, n + 1)
 }
 
@@ -191,7 +192,7 @@ fn plan_pairs(w: &[u32], h: Header, serial: [u8; 16], len: usize, room: usize) -
     if !s.held {
         return refused(7, s.place, 0);
     }
-    let n = cells::card_word(w, h.cards, h.faults, s.cell, 8);
+    let n = cells::card_word(w, h.cards, h.faults, s.cell, layout::COUNT);
     if room < 2 * (n as usize) {
         return refused(10, s.place, n);
     }

@@ -1,7 +1,7 @@
 // The search of a bucket's chain for a serial: it counts the cards that it compares.
 ghost use mathlib.Core.Path.{_≡_};
 ghost use mathlib.Core.Bool.{true};
-ghost use Prim.Native.Nat.{_≤_, _<_};
+ghost use Prim.Native.Nat.{_≤_};
 ghost use lib.ListN.{take};
 ghost use Rattle.model.specs.Serial.{validSerial};
 ghost use Rattle.model.specs.Layout.{decode, sound};
@@ -11,6 +11,7 @@ ghost use Rattle.store.specs.Search.{Ends, hasKey, searched, Finds};
 use crate::cells;
 use crate::cells::Header;
 use crate::front;
+use crate::layout;
 use crate::serial;
 
 // What a search gives: the place is the card's, from 1, if held, else the chain's length; the cell is 0 if not held; prev is the cell
@@ -32,16 +33,16 @@ pub struct Spot {
 }
 
 // Whether card i has a serial of this length and these four words: lengths and all bytes are compared, never codes.
-fn has_key(w: &[u32], c: u32, f: u32, i: u32, len: u32, key: [u32; 4]) -> bool
+fn has_key(w: &[u32], c: u32, f: u32, i: u32, len: u32, key: [u32; layout::SERIAL_WORDS]) -> bool
     requires { ⌜ Sized (now w) c f × (1 ≤ i) × (i ≤ c) ⌝ }
     ensures { λ r. ⌜ r ≡ hasKey (now (w .entry)) i len key ⌝ }
 {
-    if cells::card_word(w, c, f, i, 1) != len {
+    if cells::card_word(w, c, f, i, layout::LENGTH) != len {
         return false;
     }
     let mut k: usize = 0;
-    while k < 4 {
-        if cells::card_word(w, c, f, i, k + 2) != key[k] {
+    while k < layout::SERIAL_WORDS {
+        if cells::card_word(w, c, f, i, k + layout::SERIAL) != key[k] {
             return false;
         }
         k += 1;
@@ -50,7 +51,14 @@ fn has_key(w: &[u32], c: u32, f: u32, i: u32, len: u32, key: [u32; 4]) -> bool
 }
 
 // Goes along the chain from cell `first` until a card has the serial, and counts the cards compared.
-pub fn search(w: &[u32], c: u32, f: u32, first: u32, len: u32, key: [u32; 4]) -> Found
+pub fn search(
+    w: &[u32],
+    c: u32,
+    f: u32,
+    first: u32,
+    len: u32,
+    key: [u32; layout::SERIAL_WORDS],
+) -> Found
     requires { ⌜ Sized (now w) c f × Ends c (nextCard (now w)) first ⌝ }
     ensures { λ r. ⌜ r ≡ searched c (now (w .entry)) first len key ⌝ }
 {
@@ -68,7 +76,7 @@ pub fn search(w: &[u32], c: u32, f: u32, first: u32, len: u32, key: [u32; 4]) ->
             };
         }
         prev = i;
-        i = cells::card_word(w, c, f, i, 0);
+        i = cells::card_word(w, c, f, i, layout::NEXT);
     }
     Found {
         held: false,
@@ -93,7 +101,7 @@ pub fn find(w: &[u32], h: Header, serial: [u8; 16], len: usize) -> Spot
 {
     let code = rules::serial_code(serial, len);
     let b = rules::reader_address(code, h.maxp, h.p);
-    let first = cells::word(w, cells::SEGMENTS + b as usize);
+    let first = cells::word(w, layout::SEGMENTS + b as usize);
     let key = serial::pack(serial);
     let r = search(w, h.cards, h.faults, first, len as u32, key);
     Spot {

@@ -1,12 +1,12 @@
 // Serials and faults: which are valid, and a serial's sixteen bytes packed into and out of four words.
 ghost use mathlib.Core.Path.{_≡_};
-ghost use mathlib.Core.List.{[], _∷_};
 ghost use Prim.Native.Nat.{_≤_, _/_, _%_, _^_};
 ghost use lib.Dec.{eqb};
 ghost use Rattle.model.specs.Lists.{between, all};
 ghost use Rattle.model.specs.Serial.{allowed, validSerial, validFault};
 ghost use Rattle.model.specs.Layout.{packed};
 ghost use Rattle.store.specs.Cells.{packedAll, unpackedAll, fourBytes};
+use crate::layout;
 
 // A number from lo to hi.
 pub fn within(lo: u32, hi: u32, x: u32) -> bool
@@ -99,7 +99,7 @@ fn word_of(s: [u8; 16], k: usize) -> u32
 }
 
 // The four words of a serial's sixteen bytes.
-pub fn pack(s: [u8; 16]) -> [u32; 4]
+pub fn pack(s: [u8; 16]) -> [u32; layout::SERIAL_WORDS]
     ensures { λ r. ⌜ r ≡ packedAll s ⌝ }
 {
     let a = word_of(s, 0);

@@ -4,7 +4,7 @@ ghost use Prim.Native.Nat.{_+_, _≤_, _<_};
 ghost use lib.ListN.{length, set};
 ghost use Rattle.rules.specs.Table.{top, highMaxp, highP, lowMaxp, lowP};
 ghost use Rattle.model.specs.Model.{grown, shrunk};
-ghost use Rattle.model.specs.Layout.{segmentsAt, encode, decode};
+ghost use Rattle.model.specs.Layout.{maxpAt, pAt, segmentsAt, encode, decode};
 ghost use Rattle.model.specs.Meaning.{nextCard, bucketWord};
 ghost use Rattle.model.specs.Words.{openWords, closeWords, movesAt, partWords, splitWords, joinWords};
 ghost use Rattle.store.specs.Cells.{Sized};
@@ -13,6 +13,7 @@ ghost use Rattle.store.specs.Table.{MaySplit, MayJoin, lastFrom, lastOf,
 use crate::cells;
 use crate::cells::Header;
 use crate::front;
+use crate::layout;
 use crate::writes;
 
 // Whether the card in cell i goes to the new bucket maxp + p.
@@ -20,7 +21,7 @@ fn moves(w: &[u32], c: u32, f: u32, maxp: u32, p: u32, i: u32) -> bool
     requires { ⌜ Sized (now w) c f × (1 ≤ maxp) × (maxp + p < top) × (1 ≤ i) × (i ≤ c) ⌝ }
     ensures { λ r. ⌜ r ≡ movesAt (now (w .entry)) maxp p i ⌝ }
 {
-    let len = cells::card_word(w, c, f, i, 1) as usize;
+    let len = cells::card_word(w, c, f, i, layout::LENGTH) as usize;
     let bytes = cells::bytes_at(w, c, f, i);
     let code = rules::serial_code(bytes, len);
     code % (2 * maxp) == maxp + p
@@ -33,11 +34,11 @@ fn part(w: &mut [u32], c: u32, f: u32, maxp: u32, p: u32)
     ensures { λ _. ⌜ now (w .exit) ≡ partWords c maxp p (now (w .entry)) 0 0 (bucketWord (now (w .entry)) p) ⌝ }
 {
     let n = maxp + p;
-    let mut x = cells::word(w, cells::SEGMENTS + p as usize);
+    let mut x = cells::word(w, layout::SEGMENTS + p as usize);
     let mut k: u32 = 0;
     let mut g: u32 = 0;
     while x != 0 {
-        let next = cells::card_word(w, c, f, x, 0);
+        let next = cells::card_word(w, c, f, x, layout::NEXT);
         if moves(w, c, f, maxp, p, x) {
             writes::link(w, c, n, g, x);
             g = x;
@@ -56,8 +57,8 @@ fn open_bucket(w: &mut [u32], n: u32)
     requires { ⌜ (segmentsAt + top ≤ length (now w)) × (n < top) ⌝ }
     ensures { λ _. ⌜ now (w .exit) ≡ openWords (now (w .entry)) n ⌝ }
 {
-    if n % front::SEGMENT == 0 {
-        w[cells::DIRECTORY + (n / front::SEGMENT) as usize] = cells::SEGMENTS as u32 + n;
+    if n % layout::SEGMENT == 0 {
+        w[layout::DIRECTORY + (n / layout::SEGMENT) as usize] = layout::SEGMENTS as u32 + n;
     }
 }
 
@@ -65,8 +66,8 @@ fn close_bucket(w: &mut [u32], n: u32)
     requires { ⌜ (segmentsAt + top ≤ length (now w)) × (n < top) ⌝ }
     ensures { λ _. ⌜ now (w .exit) ≡ closeWords (now (w .entry)) n ⌝ }
 {
-    if n % front::SEGMENT == 0 {
-        w[cells::DIRECTORY + (n / front::SEGMENT) as usize] = 0;
+    if n % layout::SEGMENT == 0 {
+        w[layout::DIRECTORY + (n / layout::SEGMENT) as usize] = 0;
     }
 }
 
@@ -102,10 +103,10 @@ fn low_p(maxp: u32, p: u32) -> u32
 // maxp and p, words 3 and 4 of the header.
 fn set_state(w: &mut [u32], maxp: u32, p: u32)
     requires { ⌜ segmentsAt + top ≤ length (now w) ⌝ }
-    ensures { λ _. ⌜ now (w .exit) ≡ set (set (now (w .entry)) 3 maxp) 4 p ⌝ }
+    ensures { λ _. ⌜ now (w .exit) ≡ set (set (now (w .entry)) maxpAt maxp) pAt p ⌝ }
 {
-    w[3] = maxp;
-    w[4] = p;
+    w[layout::MAXP] = maxp;
+    w[layout::P] = p;
 }
 
 // One bucket more: the chain of bucket p is parted, the new bucket's segment is taken if it is the first there, p grows.
@@ -129,7 +130,7 @@ fn last_from(w: &[u32], c: u32, f: u32, first: u32) -> u32
     let mut last: u32 = 0;
     while i != 0 {
         last = i;
-        i = cells::card_word(w, c, f, i, 0);
+        i = cells::card_word(w, c, f, i, layout::NEXT);
     }
     last
 }
@@ -146,8 +147,8 @@ pub fn join(w: &mut [u32], h: Header)
     let p = h.p;
     let b = low_p(maxp, p);
     let going = maxp + p - 1;
-    let k = last_from(w, c, f, cells::word(w, cells::SEGMENTS + b as usize));
-    let first = cells::word(w, cells::SEGMENTS + going as usize);
+    let k = last_from(w, c, f, cells::word(w, layout::SEGMENTS + b as usize));
+    let first = cells::word(w, layout::SEGMENTS + going as usize);
     writes::link(w, c, b, k, first);
     writes::put_bucket(w, going, 0);
     close_bucket(w, going);
@@ -160,7 +161,7 @@ pub fn grow(w: &mut [u32])
     ensures { λ _. ⌜ now (w .exit) ≡ encode (grown (decode (now (w .entry)))) ⌝ }
 {
     let h = front::header(w);
-    let n = cells::word(w, 5);
+    let n = cells::word(w, layout::HELD);
     if rules::must_split(n, h.maxp + h.p) {
         split(w, h);
     }
@@ -172,7 +173,7 @@ pub fn shrink(w: &mut [u32])
     ensures { λ _. ⌜ now (w .exit) ≡ encode (shrunk (decode (now (w .entry)))) ⌝ }
 {
     let h = front::header(w);
-    let n = cells::word(w, 5);
+    let n = cells::word(w, layout::HELD);
     if rules::must_contract(n, h.maxp + h.p) {
         join(w, h);
     }

@@ -1,15 +1,15 @@
 // Walks of chains over marks: each cell is within its limit, stands in no chain walked before, and is what its chain asks.
 ghost use mathlib.Core.Path.{_≡_};
-ghost use mathlib.Core.Bool.{Bool, cond, _&&_};
+ghost use mathlib.Core.Bool.{cond, _&&_};
 ghost use mathlib.Core.List.{map};
-ghost use Prim.Native.Nat.{ℕ, _+_, _≤_, _<_};
-ghost use Rattle.rules.specs.Table.{top};
+ghost use Prim.Native.Nat.{_≤_, _<_};
 ghost use Rattle.model.specs.Lists.{from};
 ghost use Rattle.store.specs.Cells.{Sized, cellFits};
 ghost use Rattle.store.specs.Walk.{mayCome, walkOf, walksFrom, Did, DidAll};
 ghost use Rattle.store.specs.Checker.{Asks, nextIn, firstOf, endFits, startOf, reachOf};
 use crate::cells;
 use crate::cells::Header;
+use crate::layout;
 use crate::marks;
 
 // Whether a walk came to the end, how many cells it met, and which was the last.
@@ -78,7 +78,7 @@ pub fn walk(
         marks::mark(scratch, base + (i - 1) as usize);
         n += 1;
         last = i;
-        i = cells::cell_word(w, c, f, faults, i, 0);
+        i = cells::cell_word(w, c, f, faults, i, layout::NEXT);
     }
     Walked {
         ok: true,
@@ -93,9 +93,9 @@ fn first_of(w: &[u32], c: u32, f: u32, faults: bool, j: u32) -> u32
     ensures { λ r. ⌜ r ≡ firstOf (now (w .entry)) faults j ⌝ }
 {
     if faults {
-        cells::card_word(w, c, f, j + 1, 6)
+        cells::card_word(w, c, f, j + 1, layout::FIRST)
     } else {
-        cells::word(w, cells::SEGMENTS + j as usize)
+        cells::word(w, layout::SEGMENTS + j as usize)
     }
 }
 
@@ -114,10 +114,10 @@ fn end_fits(w: &[u32], c: u32, f: u32, faults: bool, j: u32, count: u32, last: u
     if !faults {
         return true;
     }
-    if count != cells::card_word(w, c, f, j + 1, 8) {
+    if count != cells::card_word(w, c, f, j + 1, layout::COUNT) {
         return false;
     }
-    last == cells::card_word(w, c, f, j + 1, 7)
+    last == cells::card_word(w, c, f, j + 1, layout::LAST)
 }
 
 // A walk of chain j came to its end, and that is where the words say.

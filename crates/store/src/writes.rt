@@ -9,7 +9,7 @@ ghost use lib.ListN.{length, set, take, replicate};
 ghost use lib.Seq.{sets};
 ghost use Rattle.rules.specs.Table.{top};
 ghost use Rattle.model.specs.Serial.{validSerial};
-ghost use Rattle.model.specs.Layout.{segmentsAt, cardWidth, faultWidth, follow, last as lastOf};
+ghost use Rattle.model.specs.Layout.{heldAt, faultsHeldAt, freeAt, toNext, toFirst, toLast, toCount, segmentsAt, cardWidth, faultWidth, follow, last as lastOf};
 ghost use Rattle.model.specs.Meaning.{nextFault};
 ghost use Rattle.model.specs.Words.{cardAt, faultAt, linkAt, placeWords, fileWords, clearWords, giveWords, removeWords};
 ghost use Rattle.store.specs.Cells.{Sized};
@@ -17,6 +17,7 @@ ghost use Rattle.store.specs.Search.{Ends};
 ghost use Rattle.store.specs.Writes.{MayPlace, MayFile, MayRemove};
 use crate::cells;
 use crate::front;
+use crate::layout;
 use crate::serial;
 
 // The word of bucket b, in the segment part.
@@ -44,15 +45,15 @@ fn set_card(cards: &mut [u32], i: u32, k: usize, v: u32)
     requires { ⌜ (1 ≤ i) × (cardWidth * i ≤ length (now cards)) × (k < cardWidth) ⌝ }
     ensures { λ _. ⌜ now (cards .exit) ≡ set (now (cards .entry)) (cardWidth * (i - 1) + k) v ⌝ }
 {
-    cards[cells::CARD * ((i - 1) as usize) + k] = v;
+    cards[layout::CARD * ((i - 1) as usize) + k] = v;
 }
 
 // The whole of card cell i.
-fn fill_card(cards: &mut [u32], i: u32, words: [u32; 9])
+fn fill_card(cards: &mut [u32], i: u32, words: [u32; layout::CARD])
     requires { ⌜ (1 ≤ i) × (cardWidth * i ≤ length (now cards)) ⌝ }
     ensures { λ _. ⌜ now (cards .exit) ≡ sets (now (cards .entry)) (cardWidth * (i - 1)) words ⌝ }
 {
-    write(cards, cells::CARD * ((i - 1) as usize), &words);
+    write(cards, layout::CARD * ((i - 1) as usize), &words);
 }
 
 // Word k of fault cell i, in the fault part.
@@ -60,15 +61,15 @@ fn set_fault(faults: &mut [u32], i: u32, k: usize, v: u32)
     requires { ⌜ (1 ≤ i) × (faultWidth * i ≤ length (now faults)) × (k < faultWidth) ⌝ }
     ensures { λ _. ⌜ now (faults .exit) ≡ set (now (faults .entry)) (faultWidth * (i - 1) + k) v ⌝ }
 {
-    faults[cells::FAULT * ((i - 1) as usize) + k] = v;
+    faults[layout::FAULT * ((i - 1) as usize) + k] = v;
 }
 
 // The whole of fault cell i.
-fn fill_fault(faults: &mut [u32], i: u32, words: [u32; 3])
+fn fill_fault(faults: &mut [u32], i: u32, words: [u32; layout::FAULT])
     requires { ⌜ (1 ≤ i) × (faultWidth * i ≤ length (now faults)) ⌝ }
     ensures { λ _. ⌜ now (faults .exit) ≡ sets (now (faults .entry)) (faultWidth * (i - 1)) words ⌝ }
 {
-    write(faults, cells::FAULT * ((i - 1) as usize), &words);
+    write(faults, layout::FAULT * ((i - 1) as usize), &words);
 }
 
 // A word of the header.
@@ -84,7 +85,7 @@ pub fn put_bucket(w: &mut [u32], b: u32, v: u32)
     requires { ⌜ (segmentsAt + top ≤ length (now w)) × (b < top) ⌝ }
     ensures { λ _. ⌜ now (w .exit) ≡ set (now (w .entry)) (segmentsAt + b) v ⌝ }
 {
-    set_bucket(&mut w[cells::SEGMENTS..cells::CARDS], b, v);
+    set_bucket(&mut w[layout::SEGMENTS..layout::CARDS], b, v);
 }
 
 pub fn put_card(w: &mut [u32], c: u32, i: u32, k: usize, v: u32)
@@ -92,15 +93,15 @@ pub fn put_card(w: &mut [u32], c: u32, i: u32, k: usize, v: u32)
     ensures { λ _. ⌜ now (w .exit) ≡ set (now (w .entry)) (cardAt i k) v ⌝ }
 {
     let e = front::faults_at(c);
-    set_card(&mut w[cells::CARDS..e], i, k, v);
+    set_card(&mut w[layout::CARDS..e], i, k, v);
 }
 
-pub fn put_card_cell(w: &mut [u32], c: u32, i: u32, words: [u32; 9])
+pub fn put_card_cell(w: &mut [u32], c: u32, i: u32, words: [u32; layout::CARD])
     requires { ⌜ (segmentsAt + top + cardWidth * c ≤ length (now w)) × (1 ≤ i) × (i ≤ c) ⌝ }
-    ensures { λ _. ⌜ now (w .exit) ≡ sets (now (w .entry)) (cardAt i 0) words ⌝ }
+    ensures { λ _. ⌜ now (w .exit) ≡ sets (now (w .entry)) (cardAt i toNext) words ⌝ }
 {
     let e = front::faults_at(c);
-    fill_card(&mut w[cells::CARDS..e], i, words);
+    fill_card(&mut w[layout::CARDS..e], i, words);
 }
 
 pub fn put_fault(w: &mut [u32], c: u32, i: u32, k: usize, v: u32)
@@ -111,9 +112,9 @@ pub fn put_fault(w: &mut [u32], c: u32, i: u32, k: usize, v: u32)
     set_fault(&mut w[e..], i, k, v);
 }
 
-pub fn put_fault_cell(w: &mut [u32], c: u32, i: u32, words: [u32; 3])
+pub fn put_fault_cell(w: &mut [u32], c: u32, i: u32, words: [u32; layout::FAULT])
     requires { ⌜ (segmentsAt + top + cardWidth * c + faultWidth * i ≤ length (now w)) × (1 ≤ i) ⌝ }
-    ensures { λ _. ⌜ now (w .exit) ≡ sets (now (w .entry)) (faultAt c i 0) words ⌝ }
+    ensures { λ _. ⌜ now (w .exit) ≡ sets (now (w .entry)) (faultAt c i toNext) words ⌝ }
 {
     let e = front::faults_at(c);
     fill_fault(&mut w[e..], i, words);
@@ -127,7 +128,7 @@ pub fn link(w: &mut [u32], c: u32, b: u32, i: u32, v: u32)
     if i == 0 {
         put_bucket(w, b, v);
     } else {
-        put_card(w, c, i, 0, v);
+        put_card(w, c, i, layout::NEXT, v);
     }
 }
 
@@ -136,37 +137,37 @@ pub fn place(w: &mut [u32], c: u32, f: u32, b: u32, last: u32, serial: [u8; 16],
     requires { ⌜ MayPlace (now w) c f b last × (validSerial serial len ≡ true) ⌝ }
     ensures { λ _. ⌜ now (w .exit) ≡ placeWords (now (w .entry)) b last (take len serial) ⌝ }
 {
-    let new = cells::word(w, 7);
-    let next = cells::card_word(w, c, f, new, 0);
-    let held = cells::word(w, 5) + 1;
+    let new = cells::word(w, layout::FREE);
+    let next = cells::card_word(w, c, f, new, layout::NEXT);
+    let held = cells::word(w, layout::HELD) + 1;
     let n = len as u32;
     let key = serial::pack(serial);
-    put_word(w, 7, next);
+    put_word(w, layout::FREE, next);
     put_card_cell(w, c, new, [0, n, key[0], key[1], key[2], key[3], 0, 0, 0]);
     link(w, c, b, last, new);
-    put_word(w, 5, held);
+    put_word(w, layout::HELD, held);
 }
 
 // Which fault stands behind fault `last` of the card in cell i: the next word of `last`, or the card's first-fault word where it is 0.
 fn link_fault(w: &mut [u32], c: u32, i: u32, last: u32, v: u32)
     requires { ⌜ (segmentsAt + top + cardWidth * c + faultWidth * last ≤ length (now w)) × (1 ≤ i) × (i ≤ c) ⌝ }
-    ensures { λ _. ⌜ now (w .exit) ≡ set (now (w .entry)) (cond (eqb last 0) (cardAt i 6) (faultAt c last 0)) v ⌝ }
+    ensures { λ _. ⌜ now (w .exit) ≡ set (now (w .entry)) (cond (eqb last 0) (cardAt i toFirst) (faultAt c last toNext)) v ⌝ }
 {
     if last == 0 {
-        put_card(w, c, i, 6, v);
+        put_card(w, c, i, layout::FIRST, v);
     } else {
-        put_fault(w, c, last, 0, v);
+        put_fault(w, c, last, layout::NEXT, v);
     }
 }
 
 // A card's last fault and fault count, and the faults held.
 fn put_counts(w: &mut [u32], c: u32, i: u32, last: u32, count: u32, held: u32)
     requires { ⌜ (segmentsAt + top + cardWidth * c ≤ length (now w)) × (1 ≤ i) × (i ≤ c) ⌝ }
-    ensures { λ _. ⌜ now (w .exit) ≡ set (set (set (now (w .entry)) (cardAt i 7) last) (cardAt i 8) count) 6 held ⌝ }
+    ensures { λ _. ⌜ now (w .exit) ≡ set (set (set (now (w .entry)) (cardAt i toLast) last) (cardAt i toCount) count) faultsHeldAt held ⌝ }
 {
-    put_card(w, c, i, 7, last);
-    put_card(w, c, i, 8, count);
-    put_word(w, 6, held);
+    put_card(w, c, i, layout::LAST, last);
+    put_card(w, c, i, layout::COUNT, count);
+    put_word(w, layout::FAULTS_HELD, held);
 }
 
 // A fault takes the first free fault cell, behind the last fault of the card in the cell.
@@ -174,12 +175,12 @@ pub fn file_at(w: &mut [u32], c: u32, f: u32, cell: u32, day: u32, code: u32)
     requires { ⌜ MayFile (now w) c f cell ⌝ }
     ensures { λ _. ⌜ now (w .exit) ≡ fileWords (now (w .entry)) cell day code ⌝ }
 {
-    let new = cells::word(w, 8);
-    let next = cells::fault_word(w, c, f, new, 0);
-    let last = cells::card_word(w, c, f, cell, 7);
-    let count = cells::card_word(w, c, f, cell, 8) + 1;
-    let held = cells::word(w, 6) + 1;
-    put_word(w, 8, next);
+    let new = cells::word(w, layout::FREE_FAULTS);
+    let next = cells::fault_word(w, c, f, new, layout::NEXT);
+    let last = cells::card_word(w, c, f, cell, layout::LAST);
+    let count = cells::card_word(w, c, f, cell, layout::COUNT) + 1;
+    let held = cells::word(w, layout::FAULTS_HELD) + 1;
+    put_word(w, layout::FREE_FAULTS, next);
     put_fault_cell(w, c, new, [0, day, code]);
     link_fault(w, c, cell, last, new);
     put_counts(w, c, cell, new, count, held);
@@ -192,9 +193,9 @@ fn clear_history(w: &mut [u32], c: u32, f: u32, first: u32)
 {
     let mut i = first;
     while i != 0 {
-        let next = cells::fault_word(w, c, f, i, 0);
-        put_fault(w, c, i, 1, 0);
-        put_fault(w, c, i, 2, 0);
+        let next = cells::fault_word(w, c, f, i, layout::NEXT);
+        put_fault(w, c, i, layout::DAY, 0);
+        put_fault(w, c, i, layout::CODE, 0);
         i = next;
     }
 }
@@ -207,28 +208,28 @@ fn give_back(w: &mut [u32], c: u32, f: u32, first: u32, last: u32)
     if first == 0 {
         return;
     }
-    let free = cells::word(w, 8);
+    let free = cells::word(w, layout::FREE_FAULTS);
     clear_history(w, c, f, first);
-    put_fault(w, c, last, 0, free);
-    put_word(w, 8, first);
+    put_fault(w, c, last, layout::NEXT, free);
+    put_word(w, layout::FREE_FAULTS, first);
 }
 
 // A card cell goes to the front of the free ones.
 fn free_card(w: &mut [u32], c: u32, i: u32, free: u32)
     requires { ⌜ (segmentsAt + top + cardWidth * c ≤ length (now w)) × (1 ≤ i) × (i ≤ c) ⌝ }
-    ensures { λ _. ⌜ now (w .exit) ≡ set (sets (now (w .entry)) (cardAt i 0) (free ∷ replicate (cardWidth - 1) 0)) 7 i ⌝ }
+    ensures { λ _. ⌜ now (w .exit) ≡ set (sets (now (w .entry)) (cardAt i toNext) (free ∷ replicate (cardWidth - 1) 0)) freeAt i ⌝ }
 {
     put_card_cell(w, c, i, [free, 0, 0, 0, 0, 0, 0, 0, 0]);
-    put_word(w, 7, i);
+    put_word(w, layout::FREE, i);
 }
 
 // The cards and faults held.
 fn put_held(w: &mut [u32], cards: u32, faults: u32)
-    requires { ⌜ 6 < length (now w) ⌝ }
-    ensures { λ _. ⌜ now (w .exit) ≡ set (set (now (w .entry)) 5 cards) 6 faults ⌝ }
+    requires { ⌜ faultsHeldAt < length (now w) ⌝ }
+    ensures { λ _. ⌜ now (w .exit) ≡ set (set (now (w .entry)) heldAt cards) faultsHeldAt faults ⌝ }
 {
-    put_word(w, 5, cards);
-    put_word(w, 6, faults);
+    put_word(w, layout::HELD, cards);
+    put_word(w, layout::FAULTS_HELD, faults);
 }
 
 // The card in the cell, behind cell `prev` of bucket b's chain or its first, is taken out: its faults are given back, the chain passes it
@@ -237,13 +238,13 @@ pub fn remove_at(w: &mut [u32], c: u32, f: u32, b: u32, prev: u32, cell: u32)
     requires { ⌜ MayRemove (now w) c f b prev cell ⌝ }
     ensures { λ _. ⌜ now (w .exit) ≡ removeWords (now (w .entry)) b prev cell ⌝ }
 {
-    let next = cells::card_word(w, c, f, cell, 0);
-    let first = cells::card_word(w, c, f, cell, 6);
-    let last = cells::card_word(w, c, f, cell, 7);
-    let count = cells::card_word(w, c, f, cell, 8);
-    let free = cells::word(w, 7);
-    let cards = cells::word(w, 5) - 1;
-    let faults = cells::word(w, 6) - count;
+    let next = cells::card_word(w, c, f, cell, layout::NEXT);
+    let first = cells::card_word(w, c, f, cell, layout::FIRST);
+    let last = cells::card_word(w, c, f, cell, layout::LAST);
+    let count = cells::card_word(w, c, f, cell, layout::COUNT);
+    let free = cells::word(w, layout::FREE);
+    let cards = cells::word(w, layout::HELD) - 1;
+    let faults = cells::word(w, layout::FAULTS_HELD) - count;
     give_back(w, c, f, first, last);
     link(w, c, b, prev, next);
     free_card(w, c, cell, free);

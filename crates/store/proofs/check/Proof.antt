@@ -1,8 +1,6 @@
 -- `check` meets its contract: over cleaned marks the tests decide soundness (`checked-is-sound`), and what is cleaned in the end does not show
 -- what was marked.
-use mathlib.Core.Path.{_≡_, ap, _∙_}
-use mathlib.Core.List.{List}
-use Prim.Native.Nat.{ℕ}
+use mathlib.Core.Path.{ap, _∙_}
 use borrow.Author.Needs.{needs}
 use lib.ListN.{drop}
 use Rattle.model.specs.Calls.{scratchNeed}

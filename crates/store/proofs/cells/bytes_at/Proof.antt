@@ -1,5 +1,4 @@
 -- `cells::bytes_at` meets its contract: it unpacks the four words of the serial.
-use mathlib.Core.Path.{_∙_}
 use borrow.Author.Needs.{needs}
 use Rattle.store.specs.Cells.{bytesAt}
 use Rattle.store.proofs.cells.bytes_at.Statement.{statement}
@@ -15,8 +14,11 @@ bytes-at-spec =
     tie.close
     (tie.spec
     (λ c κs. search needs)
+    (λ c. search needs)
     (λ c κs. search needs)
+    (λ c. search needs)
     (λ c κs. search needs)
+    (λ c. search needs)
     (λ c κs. search needs)
     (λ c κs. search needs)
     returns)

@@ -1,6 +1,5 @@
 -- `cells::card_fits` meets its contract: the serial, then the address, then the cards before it on the chain.
 use mathlib.Core.Path.{_≡_, sym, _∙_}
-use native.Mathlib.Omega.{arith}
 use borrow.Author.Needs.{needs}
 use borrow.Author.Tests.{not-true, not-false, eq-eqb, ne-eqb}
 use lib.ListN.{take, getD}

@@ -1,8 +1,7 @@
 -- `cells::free_fits` meets its contract: the loop tests words 1 to the last; its invariant is that what is left to test decides.
-use mathlib.Core.Path.{_≡_, refl, sym, _∙_, ap}
+use mathlib.Core.Path.{_≡_, sym, _∙_}
 use Prim.Native.Nat.{_≤_, _-_}
 use native.Mathlib.Omega.{arith}
-use borrow.Author.Needs.{needs}
 use Rattle.store.specs.Cells.{widthOf, cellWord, freeFits}
 use Rattle.store.proofs.Rows.{testFrom, test-more, test-fails, test-ends}
 use Rattle.store.proofs.CellLaws.{width-most, zeroAt, zero-start, zero-here, zero-not}

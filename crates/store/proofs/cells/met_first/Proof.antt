@@ -1,8 +1,7 @@
 -- `cells::met_first` meets its contract: the loop's invariant is that what the search answers from here is what it answers from the start.
-use mathlib.Core.Path.{_≡_, refl, sym, _∙_, ap}
+use mathlib.Core.Path.{_≡_, sym, _∙_, ap}
 use Prim.Native.Nat.{ℕ, _≤_, _-_}
 use native.Mathlib.Omega.{arith}
-use borrow.Author.Needs.{needs}
 use borrow.Author.Tests.{not-true, not-false}
 use Rattle.model.specs.Lists.{between}
 use Rattle.model.proofs.Lists.{between-is}

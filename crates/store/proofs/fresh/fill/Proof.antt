@@ -1,5 +1,5 @@
 -- `fresh::fill` meets its contract: each part comes back behind those before it, and together they are a fresh store's words.
-use mathlib.Core.Path.{_≡_, refl, sym, ap, _∙_}
+use mathlib.Core.Path.{refl, ap, _∙_}
 use mathlib.Core.List.{_++_}
 use Prim.Native.Nat.{ℕ, _-_, _≤_}
 use native.Mathlib.Omega.{arith}
@@ -7,8 +7,10 @@ use borrow.Author.Needs.{needs}
 use borrow.Rule.Slice.PartMut.{putMid}
 use Rattle.model.specs.Model.{fresh}
 use Rattle.model.specs.Layout.{cardWidth, faultWidth, cardsAt, faultsAt, lengthFor, header, directory, segments}
+use Rattle.model.proofs.Rep.{segments-length}
+use Rattle.model.proofs.Fresh.{fair-fresh}
 use Rattle.store.specs.Fresh.{cellsTo}
-use Rattle.store.proofs.FreshLaws.{Laid, none-laid, mid-laid, lay, laid-whole, head-length, segments-fresh, segments-length, cells-length, fresh-words}
+use Rattle.store.proofs.FreshLaws.{Laid, none-laid, mid-laid, lay, laid-whole, head-length, segments-fresh, cells-length, fresh-words}
 use Rattle.store.proofs.fresh.fill.Statement.{statement}
 use Rattle.store.proofs.fresh.fill.Tie as tie
 
@@ -31,7 +33,7 @@ unfolding lengthFor faultsAt cardsAt
 with-segments c =
     let a = c .before .before .before .before .before .before .before .before .before .before in
     let r = with-head (c .before .before .before .before) in
-    lay 32 288 256 r _ _ (c .before .before .clear .ensures ∙ segments-fresh (a .args .c) (a .args .f) _ (mid-laid 32 288 256 r (omega arith) refl)) (omega arith) (omega arith) refl (segments-length (a .args .c) (a .args .f))
+    lay 32 288 256 r _ _ (c .before .before .clear .ensures ∙ segments-fresh (a .args .c) (a .args .f) _ (mid-laid 32 288 256 r (omega arith) refl)) (omega arith) (omega arith) refl (segments-length _ (fair-fresh (a .args .c) (a .args .f) (a .pre .0)))
 
 at-is : (c : tie.After-slice-known3) → (288 ≤ c .before .before .before .before .before .before .before .before .faults-at .result) × (c .before .before .before .before .before .before .before .before .faults-at .result ≤ lengthFor (c .before .before .before .before .before .before .before .before .before .before .args .c) (c .before .before .before .before .before .before .before .before .before .before .args .f))
 unfolding lengthFor faultsAt cardsAt

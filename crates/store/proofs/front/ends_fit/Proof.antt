@@ -1,6 +1,6 @@
 -- `front::ends_fit` meets its contract: words 12 to 15 are tested one after the other.
-use mathlib.Core.Path.{_≡_, refl, sym, ap, _∙_}
-use borrow.Author.Tests.{eq-eqb, ne-eqb, not-true, not-false, le-leb, lt-leb, lt-ltb, le-ltb}
+use mathlib.Core.Path.{sym, _∙_}
+use borrow.Author.Tests.{eq-eqb, ne-eqb}
 use borrow.Author.Needs.{needs}
 use Rattle.store.proofs.Rows.{and-rest, and-fails}
 use Rattle.store.proofs.front.ends_fit.Statement.{statement}

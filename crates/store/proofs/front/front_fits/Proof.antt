@@ -3,9 +3,7 @@
 use mathlib.Core.Path.{_≡_, sym, _∙_}
 use mathlib.Core.Bool.{true}
 use native.Mathlib.Omega.{arith}
-use borrow.Author.Needs.{needs}
 use borrow.Author.Tests.{not-true, not-false}
-use Rattle.rules.specs.Table.{stateOk}
 use Rattle.rules.proofs.States.{State, state-of}
 use Rattle.store.specs.Checker.{limitsFit, frontFits}
 use Rattle.store.proofs.Rows.{and-rest, and-fails}

@@ -1,7 +1,6 @@
 -- `front::header` meets its contract: words 1 to 4 are there, and the words are sized.
 use mathlib.Core.Path.{sym}
 use native.Mathlib.Omega.{arith}
-use borrow.Author.Needs.{needs}
 use Rattle.store.proofs.FrontLaws.{fit-sized, fit-long}
 use Rattle.store.proofs.front.header.Statement.{statement}
 use Rattle.store.proofs.front.header.Tie as tie

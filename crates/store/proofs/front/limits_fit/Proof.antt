@@ -1,6 +1,6 @@
 -- `front::limits_fit` meets its contract: the length is tested, then words 0 to 2, then the length again.
-use mathlib.Core.Path.{_≡_, refl, sym, ap, _∙_}
-use borrow.Author.Tests.{eq-eqb, ne-eqb, not-true, not-false, le-leb, lt-leb, lt-ltb, le-ltb}
+use mathlib.Core.Path.{sym, _∙_}
+use borrow.Author.Tests.{eq-eqb, ne-eqb, not-true, not-false, le-leb, lt-leb}
 use borrow.Author.Needs.{needs}
 use Rattle.model.specs.Layout.{cardsAt}
 use Rattle.store.specs.Checker.{limitsFit}

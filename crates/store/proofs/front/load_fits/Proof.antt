@@ -1,6 +1,6 @@
 -- `front::load_fits` meets its contract: the upper bound is the rule of a split, and 16 buckets have no lower bound.
-use mathlib.Core.Path.{_≡_, refl, sym, ap, _∙_}
-use borrow.Author.Tests.{eq-eqb, ne-eqb, not-true, not-false, le-leb, lt-leb}
+use mathlib.Core.Path.{sym, _∙_}
+use borrow.Author.Tests.{eq-eqb, ne-eqb, le-leb, lt-leb}
 use borrow.Author.Needs.{needs}
 use Rattle.rules.proofs.Loads.{splits-true, splits-false}
 use Rattle.store.specs.Checker.{loadFits}

@@ -1,6 +1,6 @@
 -- `front::offsets_fit` meets its contract: words 9 to 11 are tested, then words 12 to 15.
-use mathlib.Core.Path.{_≡_, refl, sym, ap, _∙_}
-use borrow.Author.Tests.{eq-eqb, ne-eqb, not-true, not-false, le-leb, lt-leb, lt-ltb, le-ltb}
+use mathlib.Core.Path.{sym, _∙_}
+use borrow.Author.Tests.{eq-eqb, ne-eqb}
 use borrow.Author.Needs.{needs}
 use Rattle.model.specs.Layout.{cardsAt}
 use Rattle.store.specs.Checker.{offsetsFit}

@@ -1,9 +1,8 @@
 -- `front::rest_fits` meets its contract: the loop tests bucket words from b on; its invariant is that what is left to test decides.
-use mathlib.Core.Path.{_≡_, refl, sym, ap, _∙_}
+use mathlib.Core.Path.{_≡_, sym, _∙_}
 use Prim.Native.Nat.{_≤_, _-_}
 use native.Mathlib.Omega.{arith}
-use borrow.Author.Tests.{eq-eqb, ne-eqb, not-true, not-false, le-leb, lt-leb, lt-ltb, le-ltb}
-use borrow.Author.Needs.{needs}
+use borrow.Author.Tests.{eq-eqb, ne-eqb}
 use Rattle.rules.specs.Table.{top}
 use Rattle.store.specs.Checker.{restFits}
 use Rattle.store.proofs.Rows.{testFrom, test-more, test-fails, test-ends}

@@ -1,15 +1,14 @@
 -- `parts::part_fits` meets its contract: the walk of the free chain is `freeOf`, the walks of the others are `chainsOf`, and the answer is
 -- the `and` of the tests that `partOf` names.
-use mathlib.Core.Path.{_≡_, refl, sym, _∙_}
-use mathlib.Core.Bool.{true, false}
+use mathlib.Core.Path.{sym, _∙_}
+use mathlib.Core.Bool.{false}
 use native.Mathlib.Omega.{arith}
 use borrow.Author.Needs.{needs}
 use borrow.Author.Tests.{eq-eqb, ne-eqb, not-true, not-false}
-use lib.ListN.{length}
 use Rattle.store.specs.Walk.{Did, DidAll}
 use Rattle.store.specs.Checker.{freeOf, chainsOf, chainCount}
 use Rattle.store.proofs.Rows.{and-rest, and-fails}
-use Rattle.store.proofs.PartRuns.{limit-is, base-is, chains-reach, marks-reach, did-free, did-chains, part-stops, part-runs}
+use Rattle.store.proofs.PartRuns.{limit-is, chains-reach, marks-reach, did-free, did-chains, part-stops, part-runs}
 use Rattle.store.proofs.parts.part_fits.Statement.{statement}
 use Rattle.store.proofs.parts.part_fits.Tie as tie
 

@@ -3,12 +3,6 @@ use borrow.Author.Needs.{needs}
 use Rattle.model.specs.Layout.{bytesOf}
 use Rattle.store.proofs.serial.unpack.Statement.{statement}
 use Rattle.store.proofs.serial.unpack.Tie as tie
-use Rattle.store.proofs.serial.unpack.Reads as reads
-use Rattle.store.proofs.serial.unpack.Lts as lts
-use Rattle.store.proofs.serial.byte0.Reads as byte0-reads
-use Rattle.store.proofs.serial.byte1.Reads as byte1-reads
-use Rattle.store.proofs.serial.byte2.Reads as byte2-reads
-use Rattle.store.proofs.serial.byte3.Reads as byte3-reads
 
 -- src/serial.rt:123:9
 byte3-requires : tie.Need-byte3-requires

@@ -3,9 +3,6 @@ use borrow.Author.Needs.{needs}
 use Rattle.model.specs.Layout.{packed}
 use Rattle.store.proofs.serial.word_of.Statement.{statement}
 use Rattle.store.proofs.serial.word_of.Tie as tie
-use Rattle.store.proofs.serial.word_of.Reads as reads
-use Rattle.store.proofs.serial.word_of.Lts as lts
-use Rattle.store.proofs.serial.word4.Reads as word4-reads
 
 -- src/serial.rt:79:11
 array-read-word4 : tie.Need-array-read-word4

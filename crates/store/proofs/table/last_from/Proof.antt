@@ -1,6 +1,8 @@
 -- `table::last_from` meets its contract: at each turn the chain from here ends, and its last cell, or the cell before where none is left, is
 -- the last of all. The measure is what is left of the chain.
 use mathlib.Core.Path.{_≡_, sym, ap, _∙_}
+use mathlib.Core.List.{List, _∷_}
+use Prim.Native.Nat.{ℕ}
 use native.Mathlib.Omega.{arith}
 use lib.ListN.{length}
 use Rattle.model.specs.Layout.{last, follow}
@@ -8,20 +10,20 @@ use Rattle.model.specs.Meaning.{nextCard}
 use Rattle.model.proofs.Chains.{follow-none}
 use Rattle.store.specs.Search.{Ends}
 use Rattle.store.specs.Table.{lastFrom}
+use Rattle.store.proofs.AlongLaws.{last-after-none}
 use Rattle.store.proofs.EndsLaws.{ends-on, ends-here, ends-less}
-use Rattle.store.proofs.Walking.{lastOr, last-or}
 use Rattle.store.proofs.table.last_from.Statement.{statement}
 use Rattle.store.proofs.table.last_from.Tie as tie
 
 abbrev Inv-loop : tie.InvT-loop
-Inv-loop w c f first i₀ last₀ i last = Ends c (nextCard w) i × (lastOr last (follow c (nextCard w) i) ≡ lastFrom c w first)
+Inv-loop w c f first i₀ last₀ i before = Ends c (nextCard w) i × (last (before ∷ follow c (nextCard w) i) ≡ lastFrom c w first)
 
 abbrev μ-loop : tie.MeasureT-loop
-μ-loop w c f first i₀ last₀ i last = length (follow c (nextCard w) i)
+μ-loop w c f first i₀ last₀ i before = length (follow c (nextCard w) i)
 
 loop-holds : tie.Need-loop-holds Inv-loop μ-loop
 unfolding lastFrom
-loop-holds c = (c .before .pre .1, last-or _)
+loop-holds c = (c .before .pre .1, last-after-none _)
 
 card-word-requires : tie.Need-card-word-requires Inv-loop μ-loop
 card-word-requires c κs = let h = ends-here (c .before .loop .inv .0) (c .loop-test .taken) in (c .before .before .before .pre .0, h .0, h .1, omega arith)
@@ -30,12 +32,14 @@ loop-less : tie.Need-loop-less Inv-loop μ-loop
 loop-less c = rw (c .card-word .ensures) (ends-less (c .before .before .loop .inv .0) (c .before .loop-test .taken))
 
 loop-again : tie.Need-loop-again Inv-loop μ-loop
+unfolding last
 loop-again c =
     let on = ends-on (c .before .before .loop .inv .0) (c .before .loop-test .taken) in
-    rw (c .card-word .ensures) (on .1, ap (lastOr (c .before .before .loop .last)) (sym (on .0)) ∙ c .before .before .loop .inv .1)
+    rw (c .card-word .ensures) (on .1, ap (λ (l : List ℕ). last (c .before .before .loop .last ∷ l)) (sym (on .0)) ∙ c .before .before .loop .inv .1)
 
 returns : tie.Need-returns Inv-loop μ-loop
-returns c = ap (lastOr (c .before .loop .last)) (sym (follow-none _ _ _ (c .loop-test .left))) ∙ c .before .loop .inv .1
+unfolding last
+returns c = ap (λ (l : List ℕ). last (c .before .loop .last ∷ l)) (sym (follow-none _ _ _ (c .loop-test .left))) ∙ c .before .loop .inv .1
 
 pub last-from-spec : {M : Type 1} → statement M
 last-from-spec = tie.close (tie.spec Inv-loop μ-loop loop-holds card-word-requires loop-less loop-again returns)

@@ -1,13 +1,10 @@
 -- `walks::chains` meets its contract: at each turn of the loop, what the walks answer from here is what they answer from the start (`Holding`).
-use mathlib.Core.Path.{_≡_, sym, _∙_}
-use mathlib.Core.Bool.{Bool, true, false, cond, _&&_}
-use Prim.Native.Nat.{ℕ, _-_, _≤_, _<_}
+use mathlib.Core.Path.{sym, _∙_}
+use Prim.Native.Nat.{_-_}
 use native.Mathlib.Omega.{arith}
 use borrow.Author.Tests.{not-true, not-false}
-use Rattle.rules.specs.Table.{top}
-use Rattle.store.specs.Cells.{cellFits}
 use Rattle.store.specs.Walk.{Did, walkOn}
-use Rattle.store.specs.Checker.{nextIn, endFits, startOf, reachOf}
+use Rattle.store.specs.Checker.{nextIn, startOf}
 use Rattle.store.proofs.WalkLaws.{Holding, begins, ends, refuses, kept-long, total-le, carries-on}
 use Rattle.store.proofs.CellLaws.{bucket-most}
 use Rattle.store.proofs.walks.chains.Statement.{statement}

@@ -1,5 +1,4 @@
 -- `walks::first_of` meets its contract: a bucket's word, or the first fault of a card.
-use mathlib.Core.Path.{_≡_}
 use Prim.Native.Nat.{_<_}
 use native.Mathlib.Omega.{arith}
 use borrow.Author.Needs.{needs}

@@ -6,7 +6,7 @@ use Prim.Native.Nat.{_-_, _≤_, _<_}
 use native.Mathlib.Omega.{arith}
 use borrow.Author.Tests.{not-true, not-false}
 use Rattle.model.specs.Calls.{scratchNeed}
-use Rattle.store.specs.Cells.{widthOf, cellFits}
+use Rattle.store.specs.Cells.{cellFits}
 use Rattle.store.specs.Walk.{mayCome}
 use Rattle.store.specs.Checker.{nextIn}
 use Rattle.store.proofs.WalkLaws.{Going, start, below, goes-on, walk-end, walk-bad, may-in, answers}

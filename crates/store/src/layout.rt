@@ -1,0 +1,89 @@
+// Layout: counts and offsets. Each number of it has its name here, once.
+
+// The card limit C is 1 to 1,024; the fault limit F 1 to 2,048.
+pub const MOST_CARDS: u32 = 1024;
+
+pub const MOST_FAULTS: u32 = 2048;
+
+// Words 0 to 2 of the header: format 1, C, F.
+pub const FORMAT_AT: usize = 0;
+
+pub const LIMIT: usize = 1;
+
+pub const FAULT_LIMIT: usize = 2;
+
+pub const FORMAT: u32 = 1;
+
+// Words 3 to 6: maxp, p, cards held, faults held.
+pub const MAXP: usize = 3;
+
+pub const P: usize = 4;
+
+pub const HELD: usize = 5;
+
+pub const FAULTS_HELD: usize = 6;
+
+// Words 7 and 8: first free card cell, first free fault cell.
+pub const FREE: usize = 7;
+
+pub const FREE_FAULTS: usize = 8;
+
+// Words 9 to 13: offset of directory, segments, cards, faults; whole length.
+pub const DIRECTORY_OFFSET: usize = 9;
+
+pub const SEGMENTS_OFFSET: usize = 10;
+
+pub const CARDS_OFFSET: usize = 11;
+
+pub const FAULTS_OFFSET: usize = 12;
+
+pub const WHOLE_LENGTH: usize = 13;
+
+// Words 14 and 15: 0.
+pub const FIRST_ZERO: usize = 14;
+
+pub const LAST_ZERO: usize = 15;
+
+// Where the directory, the segments and the card cells begin.
+pub const DIRECTORY: usize = 16;
+
+pub const SEGMENTS: usize = 32;
+
+pub const CARDS: usize = 288;
+
+// The buckets of a segment, and how many segments there are.
+pub const SEGMENT: u32 = 16;
+
+pub const SEGMENT_COUNT: u32 = 16;
+
+// The fewest buckets and the most; the most, as a bucket, is a free chain.
+pub const LEAST: u32 = 16;
+
+pub const TOP: u32 = 256;
+
+// How many words the header, a card cell and a fault cell have.
+pub const HEADER: usize = 16;
+
+pub const CARD: usize = 9;
+
+pub const FAULT: usize = 3;
+
+// A card cell: next, serial length, four words of serial, first fault, last fault, fault count.
+pub const NEXT: usize = 0;
+
+pub const LENGTH: usize = 1;
+
+pub const SERIAL: usize = 2;
+
+pub const SERIAL_WORDS: usize = 4;
+
+pub const FIRST: usize = 6;
+
+pub const LAST: usize = 7;
+
+pub const COUNT: usize = 8;
+
+// A fault cell: next, at the same place as in a card cell, day, code.
+pub const DAY: usize = 1;
+
+pub const CODE: usize = 2;
