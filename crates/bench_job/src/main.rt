@@ -2,6 +2,7 @@
 ghost use Prim.Native.Nat.{_≤_, _<_};
 ghost use lib.ListN.{length};
 use job::Tally;
+use store::layout;
 
 // A head is a letter, nine digits and LF.
 const HEAD: usize = 11;
@@ -139,14 +140,14 @@ fn run_show(words: &[u32], scratch: &mut [u8], room: &mut [u32], serial: &[u8], 
 }
 
 // A test of soundness.
-fn run_check(words: &[u32], scratch: &mut [u8; 384], s: Sums) -> Sums {
+fn run_check(words: &[u32], scratch: &mut [u8; job::SCRATCH], s: Sums) -> Sums {
     let number = if store::check(words, scratch) { 0 } else { 3 };
     added(s, number, 1, 0)
 }
 
 fn run_frame(
     words: &mut [u32],
-    scratch: &mut [u8; 384],
+    scratch: &mut [u8; job::SCRATCH],
     out: &mut [u8],
     room: &mut [u32],
     kind: u8,
@@ -154,7 +155,7 @@ fn run_frame(
     s: Sums,
 ) -> Sums {
     match kind {
-        b'O' => added(s, store::open(words, 1024, 2048), 0, 0),
+        b'O' => added(s, store::open(words, layout::MOST_CARDS, layout::MOST_FAULTS), 0, 0),
         b'J' => run_job(words, scratch, out, text, false, s),
         b'W' => run_job(words, scratch, out, text, true, s),
         b'S' => run_show(words, scratch, room, text, s),
@@ -168,7 +169,7 @@ fn run_frames(
     input: &[u8],
     from: usize,
     words: &mut [u32],
-    scratch: &mut [u8; 384],
+    scratch: &mut [u8; job::SCRATCH],
     out: &mut [u8],
     room: &mut [u32],
     s: Sums,
@@ -194,7 +195,7 @@ fn run_turns(
     from: usize,
     turns: u32,
     words: &mut [u32],
-    scratch: &mut [u8; 384],
+    scratch: &mut [u8; job::SCRATCH],
     out: &mut [u8],
     room: &mut [u32],
     s: Sums,
@@ -212,7 +213,7 @@ fn run_turns(
 fn run_input(
     input: &[u8],
     words: &mut [u32],
-    scratch: &mut [u8; 384],
+    scratch: &mut [u8; job::SCRATCH],
     out: &mut [u8],
     room: &mut [u32],
     s: Sums,
@@ -252,10 +253,10 @@ fn print_sums(s: Sums) {
 
 fn main() {
     let mut input = [0u8; 262144];
-    let mut words = [0u32; 15648];
-    let mut scratch = [0u8; 384];
+    let mut words = [0u32; layout::MOST_WORDS];
+    let mut scratch = [0u8; job::SCRATCH];
     let mut out = [0u8; 65536];
-    let mut room = [0u32; 4096];
+    let mut room = [0u32; 2 * layout::MOST_FAULTS as usize];
     let n = io::read_full(0, &mut input);
     let tally = Tally {
         entries: 0,

@@ -2,9 +2,8 @@
 use libc::STDIN_FILENO;
 use libc::STDOUT_FILENO;
 
-// One byte past the longest job tells a full one from one that is too long.
 fn main() {
-    let mut input = [0u8; 16385];
+    let mut input = [0u8; reader::INPUT];
     let n = io::read_full(STDIN_FILENO, &mut input);
     let text = reader::answered(&input[..n]);
     let bytes = text.bytes;

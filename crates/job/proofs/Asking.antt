@@ -20,7 +20,7 @@ use Rattle.model.specs.Job.{enough, pairText}
 use Rattle.model.proofs.Fair.{Good}
 use Rattle.model.proofs.Look.{look}
 use Rattle.model.proofs.Cases.{enter-cases, file-cases, show-cases, withdraw-cases}
-use Rattle.model.proofs.Sound.{sound-good}
+use Rattle.model.proofs.Sound.{sound-good, words-stay}
 use Rattle.model.proofs.Jobs.{enough-long}
 use Rattle.model.proofs.Refused.{refused-act}
 use Rattle.store.specs.Plans.{Plans, fileWith, Ready, Follows, Holds, Paired}
@@ -53,8 +53,8 @@ module _ (s : Store) (p : Parsed) where
 
 -- lines that list no pair
 
-none : (n : ℕ) → _≡_ {A = ℕ} 0 (cond (eqb n 0) 0 0)
-none n = by-cases (eqb n 0) (λ e. rw e) (λ e. rw e)
+pub none-listed : (n : ℕ) → _≡_ {A = ℕ} 0 (cond (eqb n 0) 0 0)
+none-listed n = by-cases (eqb n 0) (λ e. rw e) (λ e. rw e)
 
 module _ (kind : ℕ) (r : Step) (room : List ℕ) where
   pub lists-refused : (r .answer .number ≡ 0 → ⊥) → Lists kind r 0 room
@@ -63,7 +63,7 @@ module _ (kind : ℕ) (r : Step) (room : List ℕ) where
 
   pub lists-none : (kind ≡ 2 → ⊥) → (kind ≡ 4 → ⊥) → Lists kind r 0 room
   unfolding listedBy pairText
-  lists-none m n = record { count-is = rw (ne-eqb kind 2 m, ne-eqb kind 4 n) (none (r .answer .number)); few = omega arith; text-is = refl }
+  lists-none m n = record { count-is = rw (ne-eqb kind 2 m, ne-eqb kind 4 n) (none-listed (r .answer .number)); few = omega arith; text-is = refl }
 
 -- a done show or withdraw: its count and its room are those of a history
 record Tells (s : Store) (bytes : List ℕ) (n : ℕ) (room : List ℕ) (r : Step) : Type 0 where
@@ -136,11 +136,8 @@ module _ (w : List ℕ) (ok : sound w ≡ true) (p : Parsed) where
   abbrev Stays : Step → Type 0
   Stays r = (r .answer .number ≡ 0 → ⊥) → r .store ≡ decode w
 
-  words-stay : {s : Store} → s ≡ decode w → w ≡ encode s
-  words-stay e = sym (sound-good w ok .1) ∙ ap encode (sym e)
-
   pub made-refused : (asked (decode w) p .answer .number ≡ 0 → ⊥) → w ≡ encode (asked (decode w) p .store)
-  made-refused n = words-stay (go n)
+  made-refused n = words-stay w ok (go n)
     where
       go : Stays (asked (decode w) p)
       go =
@@ -153,7 +150,7 @@ module _ (w : List ℕ) (ok : sound w ≡ true) (p : Parsed) where
 
   pub made-none : (p .kind ≡ 1 → ⊥) → (p .kind ≡ 2 → ⊥) → (p .kind ≡ 3 → ⊥) → w ≡ encode (asked (decode w) p .store)
   made-none a b c =
-      words-stay (asked-cases (decode w) p (λ (r : Step). r .store ≡ decode w) (λ k. absurd (a k)) (λ k. absurd (b k)) (λ k. absurd (c k))
+      words-stay w ok (asked-cases (decode w) p (λ (r : Step). r .store ≡ decode w) (λ k. absurd (a k)) (λ k. absurd (b k)) (λ k. absurd (c k))
       (show-cases (decode w) g (p .serial) (p .len) (λ (r : Step). r .store ≡ decode w) enough (λ v. refl) (λ v l. refl) (λ v l f. refl) (λ v l f. refl)) refl)
 
 -- one that goes ahead is ready for its change, and what that leaves is what the line leaves

@@ -22,6 +22,7 @@ use Rattle.model.proofs.Outcomes.{read-back}
 use Rattle.job.specs.Told.{Told, serialIn, dayIn, codeIn}
 use Rattle.job.specs.Turns.{asked, listedBy, turnOf}
 use Rattle.job.specs.declared.fields.Parsed.{Parsed}
+use Rattle.job.proofs.Asking.{none-listed}
 use Rattle.job.proofs.Putting.{put-front, put-rest}
 
 -- the step of a line is what is told of it, asked
@@ -33,17 +34,14 @@ asked-is s (show f) p t = rw (t .kind-is, t .serial-is, t .len-is)
 asked-is s (withdraw f) p t = rw (t .kind-is, t .serial-is, t .len-is)
 asked-is s (file f day code) p t = rw (t .kind-is, t .serial-is, t .len-is, t .day-is, t .code-is)
 
-none : (n : ℕ) → _≡_ {A = ℕ} 0 (cond (eqb n 0) 0 0)
-none n = by-cases (eqb n 0) (λ e. rw e) (λ e. rw e)
-
 -- and what its answer lists goes by its kind
 pub listed-by : (l : Line) (a : Answer) → listed l a ≡ listedBy (kind l) (a .number) (a .faults)
 unfolding listed listedBy kind
-listed-by bad a = none (a .number)
-listed-by (enter f) a = none (a .number)
+listed-by bad a = none-listed (a .number)
+listed-by (enter f) a = none-listed (a .number)
 listed-by (show f) a = refl
 listed-by (withdraw f) a = refl
-listed-by (file f day code) a = none (a .number)
+listed-by (file f day code) a = none-listed (a .number)
 
 -- a line leaves a good store
 

@@ -8,12 +8,6 @@ use lib.ListN.{length, getD, set, take, drop, replicate}
 use lib.Seq.{drop-cons, take-suc, set-at, length-take-le}
 use Rattle.model.specs.Job.{padded}
 
--- one byte more is copied
-pub copied : (f out : List ℕ) (i : ℕ) → i < length f → i < length out → set (take i f ++ drop i out) i (getD f i 0) ≡ take (i + 1) f ++ drop (i + 1) out
-copied f out i hf ho =
-    rw (add-one i, drop-cons out i 0 ho, take-suc f i 0 hf, append-assoc (take i f) (getD f i 0 ∷ []) (drop (suc i) out))
-    (set-at (take i f) (getD out i 0) (drop (suc i) out) (getD f i 0) i (length-take-le i f (omega arith)))
-
 -- the first m bytes of a field with zeros behind it
 take-zeros : (m k : ℕ) → m ≤ k → take {A = ℕ} m (replicate k 0) ≡ replicate m 0
 take-zeros zero k h = refl

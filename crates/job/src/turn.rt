@@ -16,6 +16,7 @@ use super::tally::Tally;
 use super::text;
 use store::enters;
 use store::files;
+use store::layout;
 use store::plans;
 use store::plans::Plan;
 use store::shows;
@@ -29,7 +30,7 @@ pub struct Turned {
 }
 
 // The room that a line is given for pairs: two words for each fault that a store can hold.
-pub const ROOM: usize = 4096;
+pub const ROOM: usize = 2 * layout::MOST_FAULTS as usize;
 
 // The plan of a line, by its kind: 12 for one that is not well formed.
 fn planned(words: &[u32], p: Parsed) -> Plan

@@ -80,7 +80,7 @@ count-full n l r f = sym (sum-tally n l r) ∙ sum-ones n (λ i. count i l) f
 
 -- the tests
 
-all-tally : (n : ℕ) (l : List ℕ) → all (between 1 n) l ≡ true → (i : ℕ) → 0 < count i l → (1 ≤ i) × (i ≤ n)
+pub all-tally : (n : ℕ) (l : List ℕ) → all (between 1 n) l ≡ true → (i : ℕ) → 0 < count i l → (1 ≤ i) × (i ≤ n)
 all-tally n [] e i h = absurd (omega arith)
 all-tally n (x ∷ xs) e i h =
     let b = both (between 1 n x) (all (between 1 n) xs) e in

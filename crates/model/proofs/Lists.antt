@@ -10,7 +10,7 @@ use native.Mathlib.Numerals.{add-one}
 use native.Mathlib.Omega.{arith}
 use lib.Dec.{ltb, leb, eqb, eqb·suc-suc}
 use lib.ListN.{length, take, drop, getD, set, length-take, drop-of-length-le, List·getD-eq-default}
-use lib.Seq.{drop-cons, getD-take, getD-set-same, getD-set-other}
+use lib.Seq.{drop-cons, take-suc, set-at, length-take-le, getD-take, getD-set-same, getD-set-other}
 use borrow.Author.Tests.{eq-eqb, ne-eqb, eqb-true, eqb-false, ltb-true, ltb-false, leb-true, le-leb}
 use Rattle.rules.proofs.Tests.{by-cases, not-both, both, all-of}
 use Rattle.model.specs.Lists.{between, all, same, keep, join, from}
@@ -280,3 +280,9 @@ module _ (p : ℕ → Bool) (l : List ℕ) (i : ℕ) where
 
   pub all-end : length l ≤ i → all p (drop i l) ≡ true
   all-end h = rw (drop-of-length-le l h)
+
+-- a list copied over another, one element more
+pub copy-more : (s d : List ℕ) (i : ℕ) → i < length s → i < length d → set (take i s ++ drop i d) i (getD s i 0) ≡ take (i + 1) s ++ drop (i + 1) d
+copy-more s d i h l =
+    rw (add-one i, drop-cons d i 0 l, take-suc s i 0 h, append-assoc (take i s) (getD s i 0 ∷ []) (drop (suc i) d))
+    (set-at (take i s) (getD d i 0) (drop (suc i) d) (getD s i 0) i (length-take-le i s (omega arith)))

@@ -56,7 +56,7 @@ module _ (w : List ℕ) where
   bucket-read b h = table-at (readChain w) 0 (bucketsIn w) [] b h ∙ ap (readChain w) (zero-add b)
 
   -- a card's cell stands in one of the buckets
-  held-in : (b i : ℕ) → b < bucketsIn w → In i (bucketCells w b) → In i (heldCells w)
+  pub held-in : (b i : ℕ) → b < bucketsIn w → In i (bucketCells w b) → In i (heldCells w)
   unfolding heldCells
   held-in b i h p = in-one (bucketCells w) (bucketsIn w) b i h p
 

@@ -50,3 +50,7 @@ sound-good w e =
     let h = sound-is w e in
     let l = load-is (decode w) (h .1) in
     (record { fair = h .0 .fair; high = l .0; low = l .1 }, sym (rep-words w (decode w) (h .0)))
+
+-- and a store that stays has the same words
+pub words-stay : (w : List ℕ) → sound w ≡ true → {s : Store} → s ≡ decode w → w ≡ encode s
+words-stay w ok e = sym (sound-good w ok .1) ∙ ap encode (sym e)

@@ -11,6 +11,7 @@ use job::Done;
 use job::Ran;
 use job::Tally;
 use job::text;
+use store::layout;
 
 // The limits of the store, C and F.
 const CARDS: u32 = 256;
@@ -18,7 +19,10 @@ const CARDS: u32 = 256;
 const FAULTS: u32 = 512;
 
 // The words of a store with these limits: 288 + 9 C + 3 F.
-const WORDS: usize = 288 + 9 * CARDS as usize + 3 * FAULTS as usize;
+const WORDS: usize = layout::CARDS + layout::CARD * CARDS as usize + layout::FAULT * FAULTS as usize;
+
+// The most that is read: one byte past the longest job tells a full one from one that is too long.
+pub const INPUT: usize = job::LONGEST + 1;
 
 // The bytes of the output that the job is lent.
 const OUTPUT: usize = 16384;

@@ -7,14 +7,14 @@ ghost use Rattle.rules.specs.Table.{stateOk, addressOf, splits, contract
 use std::num::wrapping_add_u32;
 
 // The fewest and the most buckets of a table.
-const LEAST: u32 = 16;
+pub const LEAST: u32 = 16;
 
-const TOP: u32 = 256;
+pub const TOP: u32 = 256;
 
 // Cards a bucket: above UPPER the table grows, below LOWER it contracts.
 const UPPER: u64 = 4;
 
-const LOWER: u64 = 2;
+pub const LOWER: u64 = 2;
 
 // The address where (maxp, p) is no state of the table.
 const NO_ADDRESS: u32 = 4294967295;

@@ -9,8 +9,11 @@ use borrow.Author.Tests.{lt-ltb, le-ltb}
 use Rattle.model.specs.Model.{Store}
 use Rattle.model.specs.Layout.{decode, encode, sound}
 use Rattle.model.specs.Calls.{Step, scratchNeed, cleaned, call, enterStep, fileStep, showStep, withdrawStep}
-use Rattle.model.proofs.Sound.{sound-good}
-use Rattle.model.proofs.Cases.{enter-cases, file-cases, show-cases, withdraw-cases}
+use Rattle.model.specs.Runs.{Act, perform, roomOf}
+use Rattle.model.proofs.Fair.{Good}
+use Rattle.model.proofs.Sound.{sound-good, words-stay}
+use Rattle.model.proofs.Cases.{enter-cases, file-cases, show-cases}
+use Rattle.model.proofs.Refused.{refused-act}
 use Rattle.store.specs.Leaves.{Gives, Leaves, Does}
 use Rattle.store.specs.Plans.{Plans}
 use Rattle.store.specs.declared.plans.Plan.{Plan}
@@ -45,58 +48,37 @@ pub plan-done : {s : Store} {bytes : List ℕ} {n : ℕ} {t : Step} {r : Plan} �
 plan-done p a b = record { answer = p .answer; words-are = a; room-is = b }
 
 module _ (w : List ℕ) (e : sound w ≡ true) (bytes : List ℕ) (n : ℕ) where
-  words-stay : {s : Store} → s ≡ decode w → w ≡ encode s
-  words-stay l = sym (sound-good w e .1) ∙ ap encode (sym l)
+  g : Good (decode w)
+  g = sound-good w e .0
+
+  act-refused : (a : Act) {r : Plan} → Plans (perform (decode w) a .answer) (decode w) bytes n r → (r .number ≡ 0 → ⊥)
+      → Does (perform (decode w) a) (r .number) (r .comparisons) (r .scanned) (r .faults) w (roomOf a)
+  act-refused a p z = let k = refused-act (decode w) g a (λ k. z (p .answer .number-is ∙ k)) in plan-done p (words-stay w e (k .0)) (sym (k .1))
 
   module _ {r : Plan} (p : Plans (enterStep (decode w) bytes n .answer) (decode w) bytes n r) where
-    enter-room : enterStep (decode w) bytes n .room ≡ []
-    enter-room = enter-cases (decode w) (sound-good w e .0) bytes n (λ t. t .room ≡ []) (λ v. refl) (λ v l. refl) (λ v l f. refl) (λ v l f. refl)
-
-    enter-stays : (enterStep (decode w) bytes n .answer .number ≡ 0 → ⊥) → enterStep (decode w) bytes n .store ≡ decode w
-    enter-stays = enter-cases (decode w) (sound-good w e .0) bytes n (λ t. (t .answer .number ≡ 0 → ⊥) → t .store ≡ decode w)
-        (λ v z. refl) (λ v l z. refl) (λ v l f z. refl) (λ v l f z. absurd (z refl))
-
     pub enter-refused : (r .number ≡ 0 → ⊥) → Does (enterStep (decode w) bytes n) (r .number) (r .comparisons) (r .scanned) (r .faults) w []
-    enter-refused z = plan-done p (words-stay (enter-stays (λ k. z (p .answer .number-is ∙ k)))) (sym enter-room)
+    enter-refused = act-refused (Act.enter bytes n) p
 
     pub enter-done : {words : List ℕ} → words ≡ encode (enterStep (decode w) bytes n .store)
         → Does (enterStep (decode w) bytes n) (r .number) (r .comparisons) (r .scanned) (r .faults) words []
-    enter-done l = plan-done p l (sym enter-room)
+    enter-done l = plan-done p l (sym (enter-cases (decode w) g bytes n (λ t. t .room ≡ []) (λ v. refl) (λ v l. refl) (λ v l f. refl) (λ v l f. refl)))
 
   module _ (day code : ℕ) {r : Plan} (p : Plans (fileStep (decode w) bytes n day code .answer) (decode w) bytes n r) where
-    file-room : fileStep (decode w) bytes n day code .room ≡ []
-    file-room = file-cases (decode w) (sound-good w e .0) bytes n (λ t. t .room ≡ []) day code (λ v. refl) (λ v u. refl) (λ v u l. refl) (λ v u l f. refl) (λ v u l f. refl)
-
-    file-stays : (fileStep (decode w) bytes n day code .answer .number ≡ 0 → ⊥) → fileStep (decode w) bytes n day code .store ≡ decode w
-    file-stays = file-cases (decode w) (sound-good w e .0) bytes n (λ t. (t .answer .number ≡ 0 → ⊥) → t .store ≡ decode w) day code
-        (λ v z. refl) (λ v u z. refl) (λ v u l z. refl) (λ v u l f z. refl) (λ v u l f z. absurd (z refl))
-
     pub file-refused : (r .number ≡ 0 → ⊥) → Does (fileStep (decode w) bytes n day code) (r .number) (r .comparisons) (r .scanned) (r .faults) w []
-    file-refused z = plan-done p (words-stay (file-stays (λ k. z (p .answer .number-is ∙ k)))) (sym file-room)
+    file-refused = act-refused (Act.file bytes n day code) p
 
     pub file-done : {words : List ℕ} → words ≡ encode (fileStep (decode w) bytes n day code .store)
         → Does (fileStep (decode w) bytes n day code) (r .number) (r .comparisons) (r .scanned) (r .faults) words []
-    file-done l = plan-done p l (sym file-room)
+    file-done l = plan-done p l (sym (file-cases (decode w) g bytes n (λ t. t .room ≡ []) day code (λ v. refl) (λ v u. refl) (λ v u l. refl) (λ v u l f. refl) (λ v u l f. refl)))
 
   module _ (room : List ℕ) {r : Plan} (p : Plans (showStep (decode w) bytes n room .answer) (decode w) bytes n r) where
-    show-stays : showStep (decode w) bytes n room .store ≡ decode w
-    show-stays = show-cases (decode w) (sound-good w e .0) bytes n (λ t. t .store ≡ decode w) room (λ v. refl) (λ v l. refl) (λ v l b. refl) (λ v l b. refl)
-
-    room-stays : (showStep (decode w) bytes n room .answer .number ≡ 0 → ⊥) → showStep (decode w) bytes n room .room ≡ room
-    room-stays = show-cases (decode w) (sound-good w e .0) bytes n (λ t. (t .answer .number ≡ 0 → ⊥) → t .room ≡ room) room
-        (λ v z. refl) (λ v l z. refl) (λ v l b z. refl) (λ v l b z. absurd (z refl))
-
     pub show-refused : (r .number ≡ 0 → ⊥) → Does (showStep (decode w) bytes n room) (r .number) (r .comparisons) (r .scanned) (r .faults) w room
-    show-refused z = plan-done p (words-stay show-stays) (sym (room-stays (λ k. z (p .answer .number-is ∙ k))))
+    show-refused = act-refused (Act.show bytes n room) p
 
     pub show-done : {left : List ℕ} → left ≡ showStep (decode w) bytes n room .room
         → Does (showStep (decode w) bytes n room) (r .number) (r .comparisons) (r .scanned) (r .faults) w left
-    show-done l = plan-done p (words-stay show-stays) l
+    show-done l = plan-done p (words-stay w e (show-cases (decode w) g bytes n (λ t. t .store ≡ decode w) room (λ v. refl) (λ v l. refl) (λ v l b. refl) (λ v l b. refl))) l
 
   module _ (room : List ℕ) {r : Plan} (p : Plans (withdrawStep (decode w) bytes n room .answer) (decode w) bytes n r) where
-    withdraw-stays : (withdrawStep (decode w) bytes n room .answer .number ≡ 0 → ⊥) → (withdrawStep (decode w) bytes n room .store ≡ decode w) × (withdrawStep (decode w) bytes n room .room ≡ room)
-    withdraw-stays = withdraw-cases (decode w) (sound-good w e .0) bytes n (λ t. (t .answer .number ≡ 0 → ⊥) → (t .store ≡ decode w) × (t .room ≡ room)) room
-        (λ v z. (refl, refl)) (λ v l z. (refl, refl)) (λ v l b z. (refl, refl)) (λ v l b z. absurd (z refl))
-
     pub withdraw-refused : (r .number ≡ 0 → ⊥) → Does (withdrawStep (decode w) bytes n room) (r .number) (r .comparisons) (r .scanned) (r .faults) w room
-    withdraw-refused z = let k = withdraw-stays (λ k. z (p .answer .number-is ∙ k)) in plan-done p (words-stay (k .0)) (sym (k .1))
+    withdraw-refused = act-refused (Act.withdraw bytes n room) p

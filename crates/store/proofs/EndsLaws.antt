@@ -14,15 +14,12 @@ use Rattle.model.specs.Layout.{last, follow}
 use Rattle.model.specs.Meaning.{Leads}
 use Rattle.model.proofs.Lists.{between-is}
 use Rattle.model.proofs.Sums.{count, bit-same, bit-other}
-use Rattle.model.proofs.Walks.{times-count, every-in, in-every, all-every, led-follow}
+use Rattle.model.proofs.Each.{all-tally}
+use Rattle.model.proofs.Walks.{times-count, in-every, led-follow}
 use Rattle.store.specs.Search.{Ends}
 use Rattle.store.proofs.AlongLaws.{follow-length}
 
 -- cells among 1 to the limit
-inside-in : (limit : ℕ) (l : List ℕ) → all (between 1 limit) l ≡ true → (i : ℕ) → 0 < count i l → (1 ≤ i) × (i ≤ limit)
-inside-in limit l a i p =
-    between-is 1 limit i .0 (every-in (λ i. between 1 limit i ≡ true) l (all-every (between 1 limit) l a) i (omega (arith, times-count i l)))
-
 led-frame : (next new : ℕ → ℕ) (h : ℕ) (l : List ℕ) → ((i : ℕ) → 0 < count i l → new i ≡ next i) → Leads next h l → Leads new h l
 led-frame next new h [] f r = r
 led-frame next new h (x ∷ l) f r =
@@ -30,11 +27,11 @@ led-frame next new h (x ∷ l) f r =
 
 -- a walk to its end is what `follow` reads, with fuel enough
 walked : (limit : ℕ) (next : ℕ → ℕ) (fuel h : ℕ) (l : List ℕ) → Leads next h l → all (between 1 limit) l ≡ true → length l ≤ fuel → follow fuel next h ≡ l
-walked limit next fuel h l r a b = led-follow next fuel h l r (in-every (λ i. 1 ≤ i) l (λ i p. inside-in limit l a i (omega (arith, times-count i l)) .0)) b
+walked limit next fuel h l r a b = led-follow next fuel h l r (in-every (λ i. 1 ≤ i) l (λ i p. all-tally limit l a i (omega (arith, times-count i l)) .0)) b
 
 module _ {limit : ℕ} {next : ℕ → ℕ} {h : ℕ} (e : Ends limit next h) where
   pub ends-in : (i : ℕ) → 0 < count i (follow limit next h) → (1 ≤ i) × (i ≤ limit)
-  ends-in = inside-in limit (follow limit next h) (e .inside)
+  ends-in = all-tally limit (follow limit next h) (e .inside)
 
   -- 0 is no cell of it
   pub ends-zero : count 0 (follow limit next h) ≡ 0

@@ -1,4 +1,4 @@
--- Laws of a fresh store's words. A list is written from the front (`all-filled`, `copy-more`, `all-copied`); parts that are lent come
+-- Laws of a fresh store's words. A list is written from the front (`all-filled`, `all-copied`); parts that are lent come
 -- back one behind another (`Laid`, `lay`), and so do the cells of a part (`cell-laid`); free cells one behind another are the part that
 -- `encode` writes, and all parts together are the encoding of a fresh store (`fresh-words`).
 use mathlib.Core.Path.{_≡_, refl, sym, ap, _∙_, subst}
@@ -26,16 +26,7 @@ use Rattle.store.specs.Fresh.{behind, leading, cellsTo}
 pub all-filled : (d : List ℕ) (n : ℕ) → n ≡ length d → replicate n 0 ++ drop n d ≡ replicate (length d) 0
 all-filled d n e = rw (e, drop-of-length-le d {i = length d} (omega arith)) (append-nil _)
 
--- one word more of s is copied to d
-copy-suc : (s d : List ℕ) (i : ℕ) → i < length s → i < length d → set (take i s ++ drop i d) i (getD s i 0) ≡ take (suc i) s ++ drop (suc i) d
-copy-suc [] d i h l = absurd (omega arith)
-copy-suc (x ∷ s) [] i h l = absurd (omega arith)
-copy-suc (x ∷ s) (y ∷ d) zero h l = refl
-copy-suc (x ∷ s) (y ∷ d) (suc i) h l = ap (λ (t : List ℕ). x ∷ t) (copy-suc s d i (omega arith) (omega arith))
-
-pub copy-more : (s d : List ℕ) (i : ℕ) → i < length s → i < length d → set (take i s ++ drop i d) i (getD s i 0) ≡ take (i + 1) s ++ drop (i + 1) d
-copy-more s d i h l = rw add-one (copy-suc s d i h l)
-
+-- a list copied to its end
 pub all-copied : (s d : List ℕ) (n : ℕ) → length s ≤ n → length d ≤ n → take n s ++ drop n d ≡ s
 all-copied s d n h l = rw (take-all n s h, drop-of-length-le d l) (append-nil s)
 

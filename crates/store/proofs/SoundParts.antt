@@ -18,28 +18,16 @@ use Rattle.model.specs.Layout.{follow, last, cardWord, faultWord}
 use Rattle.model.specs.Meaning.{times, In, ExactlyOnce, Leads, limitIn, faultLimitIn, bucketsIn, bucketWord, nextCard, nextFault, bucketCells, freeCells, historyCells, freeFaultCells, heldCells, filedCells, Sound}
 use Rattle.model.proofs.Sums.{bit, total-append, length-total}
 use Rattle.model.proofs.Walks.{times-count, in-one}
+use Rattle.model.proofs.Meaning.{held-in}
 use Rattle.store.specs.Cells.{cellWord, widthOf, limitOf}
 use Rattle.store.specs.Checker.{firstOf, endFits, chainCount, heldWord}
+use Rattle.store.proofs.AlongLaws.{follow-length}
 use Rattle.store.proofs.OnceLaws.{once-same}
 use Rattle.store.proofs.PartMeans.{chainsIn, freeIn, Part}
 use Rattle.store.proofs.CellMeans.{is-free, fault-fits, CardFits, is-card, key-serial, met-first}
 use Rattle.store.proofs.HistoryMeans.{no-history, filed-total}
 
--- no more cells are read than the fuel allows
-follow-length : (fuel : ℕ) (next : ℕ → ℕ) (i : ℕ) → length (follow fuel next i) ≤ fuel
-unfolding follow
-follow-length zero next i = omega arith
-follow-length (suc fuel) next i =
-    let r = follow-length fuel next (next i) in
-    by-cases (eqb i 0) (λ e. rw e (omega arith)) (λ e. rw e (omega arith))
-
 module _ (w : List ℕ) (s : Sound w) where
-  -- a cell of a bucket is held, and a held cell is within the limit
-
-  held : (b i : ℕ) → b < bucketsIn w → In i (bucketCells w b) → In i (heldCells w)
-  unfolding heldCells
-  held b i l p = in-one (bucketCells w) (bucketsIn w) b i l p
-
   places : (i : ℕ) → times i (freeCells w ++ heldCells w) ≡ times i (freeCells w) + times i (heldCells w)
   places i =
       times-count i (freeCells w ++ heldCells w) ∙ total-append (λ (x : ℕ). bit (eqb i x)) (freeCells w) (heldCells w)
@@ -51,15 +39,15 @@ module _ (w : List ℕ) (s : Sound w) where
 
   first : (b i : ℕ) → b < bucketsIn w → In i (bucketCells w b) → CardFits w b i
   first b i l p =
-      let in-held = held b i l p in
+      let in-held = held-in w b i l p in
       record {
         long = s .serialLengths i in-held;
         valid = s .serials i in-held;
         padding = s .padding i in-held;
         addressed = s .addressed b i l p;
         first = met-first (limitIn w) w (bucketWord w b) i (bucketCells w b) (s .bucketChain b l) (short b)
-            (λ j q. s .cardCells .cells j (omega (arith, places j, held b j l q)))
-            (λ j q k. s .different j i (held b j l q) in-held (key-serial w j i k)) p;
+            (λ j q. s .cardCells .cells j (omega (arith, places j, held-in w b j l q)))
+            (λ j q k. s .different j i (held-in w b j l q) in-held (key-serial w j i k)) p;
       }
 
   pub sound-cards : Part w false

@@ -12,9 +12,6 @@ use crate::cells::Header;
 use crate::layout;
 use crate::serial;
 
-// The fewest cards a bucket, where there are more buckets than the fewest.
-const LOWER: u64 = 2;
-
 // C is 1 to 1,024 and F is 1 to 2,048.
 pub fn limits_ok(c: u32, f: u32) -> bool
     ensures { λ r. ⌜ r ≡ limitsOk c f ⌝ }
@@ -114,7 +111,7 @@ fn load_fits(n: u32, b: u32) -> bool
     if b == layout::LEAST {
         return true;
     }
-    LOWER * (b as u64) <= n as u64
+    rules::LOWER * (b as u64) <= n as u64
 }
 
 // The directory word of segment k with b buckets.

@@ -57,9 +57,8 @@ pub const SEGMENT: u32 = 16;
 pub const SEGMENT_COUNT: u32 = 16;
 
 // The fewest buckets and the most; the most, as a bucket, is a free chain.
-pub const LEAST: u32 = 16;
-
-pub const TOP: u32 = 256;
+pub use rules::LEAST;
+pub use rules::TOP;
 
 // How many words the header, a card cell and a fault cell have.
 pub const HEADER: usize = 16;
@@ -67,6 +66,9 @@ pub const HEADER: usize = 16;
 pub const CARD: usize = 9;
 
 pub const FAULT: usize = 3;
+
+// The whole length at the highest limits.
+pub const MOST_WORDS: usize = CARDS + CARD * MOST_CARDS as usize + FAULT * MOST_FAULTS as usize;
 
 // A card cell: next, serial length, four words of serial, first fault, last fault, fault count.
 pub const NEXT: usize = 0;

@@ -12,7 +12,7 @@ pub mod enters;
 pub mod files;
 mod fresh;
 mod front;
-mod layout;
+pub mod layout;
 mod marks;
 mod parts;
 pub mod plans;
@@ -24,6 +24,7 @@ mod walks;
 pub mod withdraws;
 mod writes;
 
+pub use marks::NEED;
 pub use marks::clear;
 
 // What each of the four calls gives.

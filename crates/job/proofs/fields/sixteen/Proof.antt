@@ -5,7 +5,8 @@ use Prim.Native.Nat.{_-_, _≤_}
 use native.Mathlib.Omega.{arith}
 use denote.Ref.{now}
 use lib.ListN.{take, drop, replicate}
-use Rattle.job.proofs.Padded.{copied, padded-is}
+use Rattle.model.proofs.Lists.{copy-more}
+use Rattle.job.proofs.Padded.{padded-is}
 use Rattle.job.proofs.fields.sixteen.Statement.{statement}
 use Rattle.job.proofs.fields.sixteen.Tie as tie
 
@@ -25,7 +26,7 @@ loop-again : tie.Need-loop-again Inv-loop μ-loop
 loop-again c =
     let j = c .before .before .loop in
     let f = now (c .before .before .before .before .before .args .field) in
-    (omega arith, rw (j .inv .1) (copied f (replicate 16 0) (j .i) (omega arith) (omega arith)))
+    (omega arith, rw (j .inv .1) (copy-more f (replicate 16 0) (j .i) (omega arith) (omega arith)))
 
 returns : tie.Need-returns Inv-loop μ-loop
 returns c =

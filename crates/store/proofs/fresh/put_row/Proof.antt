@@ -5,7 +5,8 @@ use Prim.Native.Nat.{_≤_, _-_}
 use native.Mathlib.Omega.{arith}
 use borrow.Author.Needs.{needs}
 use lib.ListN.{length, take, drop, length-set}
-use Rattle.store.proofs.FreshLaws.{copy-more, all-copied}
+use Rattle.model.proofs.Lists.{copy-more}
+use Rattle.store.proofs.FreshLaws.{all-copied}
 use Rattle.store.proofs.fresh.put_row.Statement.{statement}
 use Rattle.store.proofs.fresh.put_row.Tie as tie
 
