@@ -155,7 +155,12 @@ fn run_frame(
     s: Sums,
 ) -> Sums {
     match kind {
-        b'O' => added(s, store::open(words, layout::MOST_CARDS, layout::MOST_FAULTS), 0, 0),
+        b'O' => added(
+            s,
+            store::open(words, layout::MOST_CARDS, layout::MOST_FAULTS),
+            0,
+            0,
+        ),
         b'J' => run_job(words, scratch, out, text, false, s),
         b'W' => run_job(words, scratch, out, text, true, s),
         b'S' => run_show(words, scratch, room, text, s),

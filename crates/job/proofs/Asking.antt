@@ -19,7 +19,7 @@ use Rattle.model.specs.Runs.{Act}
 use Rattle.model.specs.Job.{enough, pairText}
 use Rattle.model.proofs.Fair.{Good}
 use Rattle.model.proofs.Look.{look}
-use Rattle.model.proofs.Cases.{enter-cases, file-cases, show-cases, withdraw-cases}
+use Rattle.model.proofs.Cases.{show-cases, withdraw-cases}
 use Rattle.model.proofs.Sound.{sound-good, words-stay}
 use Rattle.model.proofs.Jobs.{enough-long}
 use Rattle.model.proofs.Refused.{refused-act}

@@ -1,11 +1,9 @@
 -- A field copied over sixteen zero bytes is the serial as it travels. Assumes nothing.
-use Prim.Native.Nat.{ℕ, zero, suc, _+_, _≤_, _<_, min}
+use Prim.Native.Nat.{ℕ, zero, suc, _+_, _≤_, min}
 use mathlib.Core.Path.{_≡_, refl, sym, ap}
-use mathlib.Core.List.{List, [], _∷_, _++_, append-assoc}
-use native.Mathlib.Numerals.{add-one}
+use mathlib.Core.List.{List, [], _∷_, _++_}
 use native.Mathlib.Omega.{arith}
-use lib.ListN.{length, getD, set, take, drop, replicate}
-use lib.Seq.{drop-cons, take-suc, set-at, length-take-le}
+use lib.ListN.{length, take, drop, replicate}
 use Rattle.model.specs.Job.{padded}
 
 -- the first m bytes of a field with zeros behind it

@@ -1,17 +1,15 @@
 -- What cells stand in a memory of cells and words, and how that goes through a write.
 use mathlib.Core.Path.{_≡_, refl, sym, ap, _∙_, subst}
-use mathlib.Core.Logic.{_⊎_, inl, inr, ⊎-elim, _↔_}
-use mathlib.Core.List.{List, [], _∷_, _++_, map}
-use mathlib.Core.Bool.{Bool, true, false, cond}
-use Prim.Native.Nat.{ℕ, zero, suc, _+_, _-_, _*_, _≤_, _<_}
+use mathlib.Core.Logic.{_⊎_, inl, inr, ⊎-elim}
+use mathlib.Core.List.{List, [], _∷_, _++_}
+use Prim.Native.Nat.{ℕ, zero, suc, _+_, _-_, _≤_, _<_}
 use native.Mathlib.Omega.{arith}
 use lib.Dec.{eqb}
-use lib.ListN.{length, getD, set}
+use lib.ListN.{length, getD}
 use borrow.Author.Tests.{ne-eqb}
-use Rattle.model.specs.Lists.{join, total}
 use Rattle.model.specs.Layout.{Cell, headOr, chained, atsOf, follow}
 use Rattle.rules.proofs.Tests.{eq?}
-use Rattle.model.proofs.Sums.{bit, bit-le, bit-same, bit-other, total-append}
+use Rattle.model.proofs.Sums.{bit, bit-same, bit-other, total-append}
 use Rattle.model.proofs.Each.{many}
 
 -- word k of cell i

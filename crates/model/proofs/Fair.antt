@@ -1,20 +1,20 @@
 -- A fair store and a good one, as facts with names; `fair` decides the one (`fair-is`, `is-fair`) and `loadOk` what a good store has more (`load-is`, `is-load`). What is
 -- counted of a store is a sum over its cards: `card-cells`, `card-count`, `fault-cells`, `fault-count`.
-use Prim.Native.Nat.{ℕ, zero, suc, _+_, _*_, _≤_, _<_}
-use mathlib.Core.Path.{_≡_, refl, sym, ap, _∙_}
-use mathlib.Core.Logic.{_⊎_, inl, inr, ⊎-elim, _↔_}
-use mathlib.Core.List.{List, [], _∷_, _++_, map}
-use mathlib.Core.Bool.{Bool, true, false, not, _&&_, _||_}
+use Prim.Native.Nat.{ℕ, _+_, _*_, _≤_, _<_}
+use mathlib.Core.Path.{_≡_, refl, sym, _∙_}
+use mathlib.Core.Logic.{_⊎_, ⊎-elim}
+use mathlib.Core.List.{List, [], _∷_, map}
+use mathlib.Core.Bool.{true, _||_}
 use native.Mathlib.Omega.{arith}
 use lib.Dec.{leb, ltb, eqb}
-use lib.ListN.{length, getD, length-append, length-map, List·getD-eq-default}
+use lib.ListN.{length, length-append, length-map, List·getD-eq-default}
 use borrow.Author.Tests.{eq-eqb, eqb-true, eqb-false, ltb-true, ltb-false, leb-true, le-leb}
 use Rattle.rules.specs.Table.{least, upper, lower, stateOk}
 use Rattle.rules.proofs.Tests.{by-cases, both, all-of, either}
-use Rattle.rules.proofs.States.{State, state-of, size-low}
-use Rattle.model.specs.Lists.{between, all, same, keep, join, from, distinct, total}
-use Rattle.model.specs.Model.{Fault, Card, Store, cards, histories, held, faultsHeld, size, bucket, is, cellsOf, faultCellsOf}
-use Rattle.model.specs.Layout.{Cell, atsOf, cardWidth, faultWidth, mostCards, mostFaults, cardCell, faultCell, freeCell, cardChains, faultChains, eachOnce, limitsOk, goodCard, goodBuckets, cellsOk, serialsOk, loadOk, fair, good}
+use Rattle.rules.proofs.States.{state-of, size-low}
+use Rattle.model.specs.Lists.{between, all, same, keep, join, total}
+use Rattle.model.specs.Model.{Fault, Card, Store, cards, histories, held, faultsHeld, size, bucket, is, faultCellsOf}
+use Rattle.model.specs.Layout.{Cell, atsOf, cardWidth, faultWidth, mostCards, mostFaults, cardCell, faultCell, freeCell, cardChains, faultChains, eachOnce, limitsOk, goodCard, goodBuckets, cellsOk, serialsOk, loadOk, fair}
 use Rattle.model.proofs.Lists.{between-is, same-is, all-from, from-all}
 use Rattle.model.proofs.Sums.{bit, count, total-append, total-map, total-flat, total-maps, length-total, distinct-total, total-distinct}
 use Rattle.model.proofs.Each.{many, Each, each-is, is-each, each-moved}

@@ -1,8 +1,8 @@
 -- The job by its numbers. Its tests come one after the other (`job-cases`); its lines are all answered, or stop before one whose answer exceeds the
 -- output left (`lines-end`). So each number of a job is given exactly when the rules say (`job-numbers`). A line is answered by 12 exactly where
 -- its form is bad, and by 10 never, since the room it is given has two words for each fault that a store can hold (`line-numbers`).
-use Prim.Native.Nat.{ℕ, zero, suc, _+_, _*_, _≤_, _<_}
-use mathlib.Core.Path.{_≡_, refl, sym, ap, _∙_, subst}
+use Prim.Native.Nat.{ℕ, suc, _+_, _*_, _≤_, _<_}
+use mathlib.Core.Path.{_≡_, refl, ap}
 use mathlib.Core.Logic.{_⊎_, inl, inr, ⊎-elim, _↔_}
 use mathlib.Core.List.{List, [], _∷_}
 use mathlib.Core.Bool.{true, false}
@@ -12,7 +12,7 @@ use lib.ListN.{length, take, getD, length-append, length-replicate}
 use borrow.Author.Tests.{ltb-true, ltb-false}
 use Rattle.rules.proofs.Tests.{by-cases, not-both}
 use Rattle.model.specs.Model.{Store, cards, historyIn}
-use Rattle.model.specs.Layout.{mostFaults, encode, decode, sound}
+use Rattle.model.specs.Layout.{mostFaults, decode, sound}
 use Rattle.model.specs.Calls.{scratchNeed, cleaned}
 use Rattle.model.specs.Runs.{Act, perform}
 use Rattle.model.specs.Runs as Runs

@@ -1,22 +1,22 @@
 -- The words of a part: what `part` writes stands, and nothing else does.
 use mathlib.Core.Path.{_≡_, refl, sym, ap, _∙_, subst}
-use mathlib.Core.Logic.{_⊎_, inl, inr, ⊎-elim, _↔_}
+use mathlib.Core.Logic.{_⊎_, ⊎-elim}
 use mathlib.Core.List.{List, [], _∷_, _++_, map}
-use mathlib.Core.Bool.{Bool, true, false, cond}
+use mathlib.Core.Bool.{Bool, cond}
 use Prim.Native.Nat.{ℕ, zero, suc, _+_, _-_, _*_, _≤_, _<_}
-use native.Mathlib.Nat.{mul-suc, add-zero}
+use native.Mathlib.Nat.{add-zero}
 use native.Mathlib.Omega.{arith}
 use lib.Dec.{eqb}
-use lib.ListN.{length, getD, set, length-append, List·getD-append}
+use lib.ListN.{length, getD, length-append, List·getD-append}
 use lib.Seq.{getD-append-add}
 use borrow.Author.Tests.{ne-eqb, eq-eqb}
-use Rattle.model.specs.Lists.{join, from, total}
+use Rattle.model.specs.Lists.{join, from}
 use Rattle.model.specs.Layout.{Cell, headOr, chained, wordsOf, part, cellAt, atsOf, follow}
 use Rattle.rules.proofs.Tests.{eq?}
-use Rattle.model.proofs.Sums.{bit, bit-le, bit-same, bit-other, total-append, total-join, total-one, length-total}
+use Rattle.model.proofs.Sums.{bit, bit-same, bit-other, total-append, total-join, total-one, length-total}
 use Rattle.model.proofs.Each.{many, Each, cover}
 use Rattle.model.proofs.Places.{cellAt-cover, cellAt-below}
-use Rattle.model.proofs.Chains.{Memory, Stands, Stand, stand-frame, stand-same, stand-append, stand-parts, many-chained, follow-chain}
+use Rattle.model.proofs.Chains.{Memory, Stand, stand-frame, stand-same, stand-parts, many-chained, follow-chain}
 
 -- the memory of a part of a store's words
 abbrev pub cellIn : List ℕ → ℕ → ℕ → Memory

@@ -1,8 +1,8 @@
 -- Where word k of cell i stands, for cells of any width.
-use mathlib.Core.Path.{_≡_, refl, sym, ap, _∙_}
+use mathlib.Core.Path.{_≡_, sym, ap}
 use mathlib.Core.Logic.{_⊎_, inl, inr, ⊎-elim}
-use Prim.Native.Nat.{ℕ, zero, suc, _+_, _-_, _*_, _/_, _%_, _≤_, _<_}
-use native.Mathlib.Nat.{mul-le-mul-left, mul-add, mul-suc, mod-lt, div-add-mod, div-lt-iff-lt-mul, mul-comm}
+use Prim.Native.Nat.{ℕ, suc, _+_, _-_, _*_, _/_, _%_, _≤_, _<_}
+use native.Mathlib.Nat.{mul-le-mul-left, mod-lt, div-add-mod, div-lt-iff-lt-mul}
 use native.Mathlib.Omega.{arith}
 use Rattle.model.specs.Layout.{cellAt}
 use Rattle.rules.proofs.Tests.{lt?}

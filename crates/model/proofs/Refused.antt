@@ -1,11 +1,10 @@
 -- A refused call changes no word of any store and none of the output room, whatever it was given (`refused-open`, `refused-call`, `refused-job`): an act that
 -- is refused leaves the store as it was, and the words of a store that stays are the same words. A call that is done is not feigned: an
 -- entry, a filing and a withdrawal leave other words (`done-changes`), since they change how many cards or faults are held.
-use Prim.Native.Nat.{ℕ, _+_}
+use Prim.Native.Nat.{ℕ}
 use mathlib.Core.Path.{_≡_, refl, sym, ap, _∙_}
 use mathlib.Core.Logic.{⊎-elim}
 use mathlib.Core.List.{List, []}
-use mathlib.Core.Bool.{true, false}
 use native.Mathlib.Omega.{arith}
 use lib.Dec.{ltb}
 use lib.ListN.{length, take, length-append}

@@ -2,7 +2,6 @@
 -- the encoding of what is read from them. So the encoding of a good store is sound (`good-sound`), and sound words are the encoding of
 -- a good store (`sound-good`).
 use mathlib.Core.Path.{_≡_, sym, ap, _∙_, subst}
-use mathlib.Core.Logic.{_↔_}
 use mathlib.Core.List.{List}
 use mathlib.Core.Bool.{Bool, true, false, _&&_, false≢true}
 use Prim.Native.Nat.{ℕ}

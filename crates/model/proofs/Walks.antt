@@ -19,7 +19,7 @@ use Rattle.model.specs.Meaning.{times, In, ExactlyOnce, Leads}
 use Rattle.model.proofs.Lists.{length-none, keep-keep, keep-drop, Every}
 use Rattle.model.proofs.Tables.{length-table, table-at, table-from}
 use Rattle.model.proofs.Sums.{bit, count, bit-le, bit-same, bit-other, total-join, total-one, total-keep}
-use Rattle.model.proofs.Each.{many, Each, cover, count-bound, count-cover, count-full}
+use Rattle.model.proofs.Each.{many, Each, cover, count-cover, count-full}
 use Rattle.model.proofs.Chains.{Memory, Stand}
 
 -- members

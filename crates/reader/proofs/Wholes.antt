@@ -3,7 +3,7 @@
 -- with its closing line behind it, writes what `depot` writes (`whole-writes`), within that output (`writes-within`).
 use Prim.Native.Nat.{ℕ, _+_, _≤_}
 use mathlib.Core.Path.{_≡_, refl, sym, ap, _∙_}
-use mathlib.Core.Bool.{true, cond}
+use mathlib.Core.Bool.{cond}
 use mathlib.Core.Logic.{⊎-elim}
 use mathlib.Core.List.{List, _++_}
 use native.Mathlib.Omega.{arith}

@@ -19,7 +19,9 @@ const CARDS: u32 = 256;
 const FAULTS: u32 = 512;
 
 // The words of a store with these limits: 288 + 9 C + 3 F.
-const WORDS: usize = layout::CARDS + layout::CARD * CARDS as usize + layout::FAULT * FAULTS as usize;
+const WORDS: usize = layout::CARDS
+    + layout::CARD * CARDS as usize
+    + layout::FAULT * FAULTS as usize;
 
 // The most that is read: one byte past the longest job tells a full one from one that is too long.
 pub const INPUT: usize = job::LONGEST + 1;

@@ -1,6 +1,6 @@
 -- Calls from their parts. On sound words a call is its plan and, where that goes ahead, the change (`enter-refused`, `enter-done` ..); for any
 -- words the entry point refuses by 11 and 3 first (`call-short`, `call-unsound`) and then does what the call does (`call-does`).
-use mathlib.Core.Path.{_≡_, refl, sym, ap, _∙_}
+use mathlib.Core.Path.{_≡_, refl, sym, _∙_}
 use mathlib.Core.Bool.{true, false}
 use mathlib.Core.List.{List, []}
 use Prim.Native.Nat.{ℕ, _≤_, _<_}

@@ -5,19 +5,19 @@ use mathlib.Core.Path.{_≡_, refl, sym, ap, _∙_, subst}
 use mathlib.Core.Logic.{⊎-elim}
 use mathlib.Core.Bool.{true, false}
 use mathlib.Core.List.{List, [], _++_}
-use Prim.Native.Nat.{ℕ, zero, suc, _+_, _≤_, _<_}
+use Prim.Native.Nat.{ℕ, _+_, _≤_, _<_}
 use native.Mathlib.Omega.{arith}
 use borrow.Author.Tests.{eq-eqb}
 use lib.Dec.{eqb}
 use lib.ListN.{length, getD}
-use Rattle.rules.proofs.Tests.{all-of, by-cases, lt?}
+use Rattle.rules.proofs.Tests.{all-of, lt?}
 use Rattle.rules.proofs.States.{state-of}
 use Rattle.model.specs.Lists.{total}
 use Rattle.model.specs.Serial.{validFault}
-use Rattle.model.specs.Layout.{follow, last, cardWord, faultWord}
+use Rattle.model.specs.Layout.{last, cardWord, faultWord}
 use Rattle.model.specs.Meaning.{times, In, ExactlyOnce, Leads, limitIn, faultLimitIn, bucketsIn, bucketWord, nextCard, nextFault, bucketCells, freeCells, historyCells, freeFaultCells, heldCells, filedCells, Sound}
 use Rattle.model.proofs.Sums.{bit, total-append, length-total}
-use Rattle.model.proofs.Walks.{times-count, in-one}
+use Rattle.model.proofs.Walks.{times-count}
 use Rattle.model.proofs.Meaning.{held-in}
 use Rattle.store.specs.Cells.{cellWord, widthOf, limitOf}
 use Rattle.store.specs.Checker.{firstOf, endFits, chainCount, heldWord}

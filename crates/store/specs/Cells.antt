@@ -3,12 +3,12 @@ use mathlib.Core.Path.{_≡_}
 use mathlib.Core.Bool.{Bool, true, false, _&&_, cond}
 use mathlib.Core.List.{List, [], _∷_, _++_}
 use Prim.Native.Nat.{ℕ, zero, suc, _+_, _-_, _*_, _≤_}
-use lib.Dec.{eqb, ltb}
+use lib.Dec.{eqb}
 use lib.ListN.{length, take, getD}
 use Rattle.rules.specs.Code.{codeOf}
 use Rattle.rules.specs.Table.{top, addressOf}
 use Rattle.model.specs.Lists.{between, all, from}
-use Rattle.model.specs.Serial.{allowed, validSerial, validFault}
+use Rattle.model.specs.Serial.{validSerial, validFault}
 use Rattle.model.specs.Layout.{limitAt, faultLimitAt, maxpAt, pAt, toNext, toLength, toSerial, toDay, toCode}
 use Rattle.model.specs.Layout.{mostCards, mostFaults, segmentsAt, cardWidth, faultWidth, cardWord, faultWord, packed, bytesOf}
 

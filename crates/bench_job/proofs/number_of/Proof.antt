@@ -1,5 +1,5 @@
 -- `bench_job::number_of` is safe: it asks for the number only where the field is one.
-use mathlib.Core.Path.{_≡_, sym, _∙_}
+use mathlib.Core.Path.{sym, _∙_}
 use borrow.Author.Needs.{needs}
 use Rattle.bench_job.proofs.number_of.Statement.{statement}
 use Rattle.bench_job.proofs.number_of.Tie as tie

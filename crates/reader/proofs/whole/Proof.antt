@@ -1,5 +1,5 @@
 -- `reader::whole` meets its contract: the job stands in the front of the output, and behind it is room for any closing line.
-use mathlib.Core.Path.{_≡_, sym}
+use mathlib.Core.Path.{sym}
 use native.Mathlib.Omega.{arith}
 use borrow.Author.Needs.{needs}
 use lib.Seq.{length-take-le}
