@@ -23,15 +23,15 @@ loop-holds c = key-start _ _ _ _ (sym (c .before .card-word .ensures) ∙ c .if1
 returns-2 : tie.Need-returns-2 Inv-loop μ-loop
 returns-2 c =
     let l = c .before .before .before .loop in
-    sym (sym (l .inv) ∙ key-fails _ _ _ (l .k) (c .before .before .loop-test .taken) (λ e. c .if2 .taken (c .before .card-word2 .ensures ∙ e)))
+    sym (sym (l .inv) ∙ key-fails _ _ _ (l .k) (omega arith) (λ e. c .if2 .taken (c .before .card-word2 .ensures ∙ e)))
 
 loop-again : tie.Need-loop-again Inv-loop μ-loop
 loop-again c =
     let l = c .before .before .before .loop in
-    key-more _ _ _ (l .k) (c .before .before .loop-test .taken) (sym (c .before .card-word2 .ensures) ∙ c .if2 .left) ∙ l .inv
+    key-more _ _ _ (l .k) (omega arith) (sym (c .before .card-word2 .ensures) ∙ c .if2 .left) ∙ l .inv
 
 returns-3 : tie.Need-returns-3 Inv-loop μ-loop
-returns-3 c = sym (sym (c .before .loop .inv) ∙ key-ends _ _ _ (c .before .loop .k) (c .loop-test .left))
+returns-3 c = sym (sym (c .before .loop .inv) ∙ key-ends _ _ _ (c .before .loop .k) (omega arith))
 
 pub has-key-spec : {M : Type 1} → statement M
 has-key-spec =
