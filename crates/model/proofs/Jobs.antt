@@ -5,11 +5,11 @@ use Prim.Native.Nat.{ℕ, suc, _+_, _*_, _≤_, _<_}
 use mathlib.Core.Path.{_≡_, refl, ap}
 use mathlib.Core.Logic.{_⊎_, inl, inr, ⊎-elim, _↔_}
 use mathlib.Core.List.{List, [], _∷_}
-use mathlib.Core.Bool.{true, false}
+use mathlib.Core.Bool.{true, false, cond}
 use native.Mathlib.Omega.{arith}
 use lib.Dec.{ltb}
 use lib.ListN.{length, take, getD, length-append, length-replicate}
-use borrow.Author.Tests.{ltb-true, ltb-false}
+use borrow.Author.Tests.{ltb-true, ltb-false, lt-ltb, le-ltb}
 use Rattle.rules.proofs.Tests.{by-cases, not-both}
 use Rattle.model.specs.Model.{Store, cards, historyIn}
 use Rattle.model.specs.Layout.{mostFaults, decode, sound}
@@ -150,6 +150,13 @@ module _ (w scratch text out : List ℕ) (t : Tally) where
         over = λ n. absurd (omega arith);
       })
       lines-numbers
+
+  -- under 11 the scratch is untouched; else its first bytes end zero and the rest stays, whatever the number
+  pub job-scratch : job w scratch text out t .scratch ≡ cond (ltb (length scratch) scratchNeed) scratch (cleaned scratch)
+  job-scratch =
+      job-cases w scratch text out t (λ j. j .scratch ≡ cond (ltb (length scratch) scratchNeed) scratch (cleaned scratch))
+      (λ a. rw (lt-ltb (length scratch) scratchNeed a)) (λ a b. rw (le-ltb (length scratch) scratchNeed a))
+      (λ a b c. rw (le-ltb (length scratch) scratchNeed a)) (λ a b c. rw (le-ltb (length scratch) scratchNeed a))
 
   -- no more lines are done than there are
   pub lines-few : job w scratch text out t .lines ≤ length (linesOf text)

@@ -6,7 +6,7 @@ use Prim.Native.Nat.{ℕ, _≤_, _<_}
 use mathlib.Core.Path.{_≡_, refl}
 use mathlib.Core.Logic.{_↔_}
 use mathlib.Core.List.{List, [], _∷_}
-use mathlib.Core.Bool.{true, false}
+use mathlib.Core.Bool.{true, false, cond}
 use native.Mathlib.Omega.{arith}
 use lib.Dec.{ltb, eqb}
 use lib.ListN.{length}
@@ -65,6 +65,12 @@ sound-call w ok (acting scratch a) =
 pub sound-run : (w : List ℕ) → sound w ≡ true → (cs : List Call) → sound (run w cs) ≡ true
 sound-run w ok [] = ok
 sound-run w ok (c ∷ cs) = sound-run (wordsAfter w c) (sound-call w ok c) cs
+
+-- under 11 the scratch is untouched; else its first bytes end zero and the rest stays, whatever the number
+pub scratch-after : (w scratch : List ℕ) (a : Act) → outcome w scratch a .scratch ≡ cond (ltb (length scratch) scratchNeed) scratch (cleaned scratch)
+unfolding call
+scratch-after w scratch a =
+    by-cases (ltb (length scratch) scratchNeed) (λ e. rw e) (λ e. rw e (by-cases (sound w) (λ ok. rw ok) (λ no. rw no)))
 
 -- the numbers that are given before the act: 11, then 3; and those of Open. With enough scratch and sound words the number is the act's,
 -- by `call-cases`, and `Numbers` has its conditions.
