@@ -13,13 +13,14 @@ use lib.Seq.{length-take-le, take-take, getD-take}
 use Rattle.model.specs.Serial.{validSerial, validFault}
 use Rattle.model.specs.Layout.{sound, decode}
 use Rattle.model.specs.Calls.{openCall}
+use Rattle.model.specs.Plain.{Book}
 use Rattle.model.specs.Runs.{run, events, taken, gone, since, tells, bookAfter, bookTells}
 use Rattle.model.specs.Job.{Line, linesOf, lineOf, padded, answerText}
 use Rattle.model.specs.Deeds.{actsOf, callsOf, stepBy, saidBy, said, wordsBy, wordsByAll, callsInAll}
-use Rattle.model.proofs.Demand2.{Agrees, emptyBook}
-use Rattle.model.proofs.Demands.{Demand3}
+use Rattle.model.proofs.Demand2.{Agrees, bookOf, emptyBook}
+use Rattle.model.proofs.Demands.{Demand3, Demand2}
 use Rattle.model.proofs.Look.{look}
-use Rattle.model.proofs.Deeds.{job-calls, said-at, deeds-demand3, deeds-demand2, filing-line}
+use Rattle.model.proofs.Deeds.{job-calls, said-at, deeds-demand3, deeds-demand2, deeds-demand2-from, filing-line}
 use Rattle.model.proofs.Jobs.{lines-few}
 use Rattle.store.specs.Leaves.{Opens}
 use Rattle.store.proofs.ProgramDemands.{left-words, opened-words}
@@ -48,21 +49,30 @@ same-words : (w : List ℕ) (ms : List Made) → AllMeet w ms → endWords w ms 
 same-words w [] a = refl
 same-words w (m ∷ ms) a = same-words (leftBy m) ms (a .1) ∙ ap (λ (v : List ℕ). wordsByAll v (map askedIn ms)) (left-is w m (a .0))
 
+-- each answer is that of a plain list, and the store and the list agree on every serial at the end
+pub record AsList (w : List ℕ) (b : Book) (ms : List Made) : Type 0 where
+  pub answers : tells w (callsInAll w (map askedIn ms)) ≡ bookTells b (callsInAll w (map askedIn ms))
+  pub agrees : Agrees (bookAfter b (callsInAll w (map askedIn ms))) (decode (endWords w ms))
+
+as-list : (w : List ℕ) (b : Book) (ms : List Made) → AllMeet w ms
+    → Demand2 w b (callsInAll w (map askedIn ms)) × (wordsByAll w (map askedIn ms) ≡ run w (callsInAll w (map askedIn ms))) → AsList w b ms
+as-list w b ms a d = record { answers = d .0 .same-tells; agrees = rw (same-words w ms a, d .1) (d .0 .agrees) }
+
+-- from any sound store on, with the list of its own cards
+pub program-demand2-from : (w : List ℕ) → sound w ≡ true → (ms : List Made) → AllMeet w ms → AsList w (bookOf (decode w)) ms
+program-demand2-from w ok ms a = as-list w (bookOf (decode w)) ms a (deeds-demand2-from w ok (map askedIn ms))
+
 module _ (w₀ w : List ℕ) (c f : ℕ) (o : Opens (openCall w₀ c f) 0 w) (ms : List Made) (a : AllMeet w ms) where
   pub program-demand3 : Demand3 (endWords w ms) (events w (callsInAll w (map askedIn ms)))
   program-demand3 =
       let e = opened-words w₀ w c f o in
       rw (same-words w ms a, e .1) (deeds-demand3 w₀ c f (e .0) (map askedIn ms))
 
-  -- each answer is the plain list's, and the store and the list agree on every serial at the end
-  pub program-tells : tells w (callsInAll w (map askedIn ms)) ≡ bookTells (emptyBook c f) (callsInAll w (map askedIn ms))
-  program-tells = let e = opened-words w₀ w c f o in rw (e .1) (deeds-demand2 w₀ c f (e .0) (map askedIn ms) .0 .same-tells)
-
-  pub program-agrees : Agrees (bookAfter (emptyBook c f) (callsInAll w (map askedIn ms))) (decode (endWords w ms))
-  program-agrees =
+  -- from an accepted Open on, with an empty list
+  pub program-demand2 : AsList w (emptyBook c f) ms
+  program-demand2 =
       let e = opened-words w₀ w c f o in
-      let d = deeds-demand2 w₀ c f (e .0) (map askedIn ms) in
-      rw (same-words w ms a, e .1, d .1) (d .0 .agrees)
+      let d = deeds-demand2 w₀ c f (e .0) (map askedIn ms) in as-list w (emptyBook c f) ms a (rw (e .1) d)
 
   -- a further job, and line k of it, which was answered
   module _ (scratch text out : List ℕ) (t : Tally) (l : Left) (e : Works (endWords w ms) scratch text out t l) (k : ℕ) (h : k < l .done .lines) where

@@ -1,6 +1,6 @@
 -- A job is the calls of its answered lines (`job-calls`). A line on sound words gives what its call gives (`line-step`); line by line, a job on the store that sound words stand for walks
 -- with the calls on the words (`lines-run`). So every sequence of calls and jobs leaves the words of a sequence of calls (`deeds-run`),
--- and the demands hold of it (`deeds-demand3`, `deeds-demand2`), also at every line in the middle of a job (`at-a-line`, `filing-line`).
+-- and the demands hold of it (`deeds-demand3`, `deeds-demand2`, `deeds-demand2-from`), also at every line in the middle of a job (`at-a-line`, `filing-line`).
 use Prim.Native.Nat.{ℕ, zero, suc, _+_, _-_, _≤_, _<_}
 use mathlib.Core.Path.{_≡_, refl, sym, ap, _∙_, subst}
 use mathlib.Core.Logic.{_↔_}
@@ -21,9 +21,9 @@ use Rattle.model.proofs.Look.{look}
 use Rattle.model.proofs.Sound.{sound-good}
 use Rattle.model.proofs.Fresh.{fresh-sound}
 use Rattle.model.proofs.Demand3.{good-act}
-use Rattle.model.proofs.Demand2.{emptyBook}
+use Rattle.model.proofs.Demand2.{bookOf, emptyBook}
 use Rattle.model.proofs.Outcomes.{read-back, call-cases, opened-fresh, sound-run}
-use Rattle.model.proofs.Demands.{Demand3, Demand2, demand3, demand2}
+use Rattle.model.proofs.Demands.{Demand3, Demand2, demand3, demand2, demand2-from}
 
 run-append : (w : List ℕ) (cs ds : List Call) → run w (cs ++ ds) ≡ run (run w cs) ds
 run-append w [] ds = refl
@@ -177,6 +177,10 @@ deeds-run w ok (d ∷ ds) =
     let v = wordsBy w d in
     let sv : sound v ≡ true = rw e (sound-run w ok (callsIn w d)) in
     deeds-run v sv ds ∙ ap (λ (u : List ℕ). run u (callsInAll v ds)) e ∙ sym (run-append w (callsIn w d) (callsInAll v ds))
+
+-- demand 2 over calls and jobs in any order, from any sound store on
+pub deeds-demand2-from : (w : List ℕ) → sound w ≡ true → (ds : List Deed) → Demand2 w (bookOf (decode w)) (callsInAll w ds) × (wordsByAll w ds ≡ run w (callsInAll w ds))
+deeds-demand2-from w ok ds = (demand2-from w ok (callsInAll w ds), deeds-run w ok ds)
 
 -- the demands over calls and jobs in any order after an accepted Open
 module _ (w₀ : List ℕ) (c f : ℕ) (accepted : openCall w₀ c f .number ≡ 0) where
