@@ -60,10 +60,6 @@ sum-tally n (x ∷ xs) r =
     let h = r x (omega (arith, bit-same x x refl)) in
     omega (arith, sum-add n (λ i. bit (eqb i x)) (λ i. count i xs), sum-bit n x (h .0) (h .1), sum-tally n xs (λ i k. r i (omega arith)))
 
--- numbers from 1 to n, none twice, are at most n
-pub count-bound : (n : ℕ) (l : List ℕ) → ((i : ℕ) → 0 < count i l → (1 ≤ i) × (i ≤ n)) → ((i : ℕ) → count i l ≤ 1) → length l ≤ n
-count-bound n l r o = omega (arith, sum-tally n l r, sum-le n (λ i. count i l) o)
-
 -- the pigeonhole principle: n numbers from 1 to n, none twice, are all of them
 pub count-cover : (n : ℕ) (l : List ℕ) → ((i : ℕ) → 0 < count i l → (1 ≤ i) × (i ≤ n)) → ((i : ℕ) → count i l ≤ 1) → length l ≡ n
     → (i : ℕ) → 1 ≤ i → i ≤ n → count i l ≡ 1
