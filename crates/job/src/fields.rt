@@ -7,6 +7,7 @@ ghost use Rattle.model.specs.Lists.{between, all};
 ghost use Rattle.model.specs.Job.{bad, two, four, fromFields, fields, isNumber, valueFrom, padded, lineOf};
 ghost use Rattle.job.specs.Told.{Holds, Told};
 use super::lines::field_end;
+use rules::SERIAL;
 
 // What a line tells: its kind (0 not well formed, 1 enter, 2 withdraw, 3 file, 4 show), its serial field as
 // sixteen bytes and its length, and the numbers of a filing. What its kind has not is 0.
@@ -18,10 +19,8 @@ pub struct Parsed {
     pub code: u32,
 }
 
-// The longest line without its LF, the longest serial and the most digits of a number.
+// The longest line without its LF, and the most digits of a number.
 const LONGEST: usize = 64;
-
-const SERIAL: usize = 16;
 
 const DIGITS: usize = 9;
 

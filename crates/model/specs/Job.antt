@@ -5,6 +5,7 @@ use mathlib.Core.Bool.{Bool, true, false, _&&_, cond}
 use lib.Dec.{ltb, eqb}
 use lib.ListN.{length, take, drop, replicate}
 use Rattle.model.specs.Lists.{between, all, same}
+use Rattle.model.specs.Serial.{mostBytes}
 use Rattle.model.specs.Model.{Store, size}
 use Rattle.model.specs.Layout.{mostFaults, encode, decode, sound}
 use Rattle.model.specs.Calls.{Answer, Step, refused, cleaned, scratchNeed, stays, enterStep, fileStep, showStep, withdrawStep}
@@ -37,7 +38,7 @@ valueFrom v (d ∷ ds) = valueFrom (10 * v + (d - 48)) ds
 
 -- a serial as a field, made sixteen bytes; its length is kept, so an empty one or one over 16 is refused by 4
 unfoldable pub padded : List ℕ → List ℕ
-padded f = take 16 (f ++ replicate 16 0)
+padded f = take mostBytes (f ++ replicate mostBytes 0)
 
 pub data Line : Type 0 where
   bad : Line

@@ -10,9 +10,13 @@ use Rattle.model.specs.Lists.{between, all}
 unfoldable pub allowed : ℕ → Bool
 allowed b = between 48 57 b || between 65 90 b || eqb b 45
 
+-- the most bytes of a serial; it travels in as many
+abbrev pub mostBytes : ℕ
+mostBytes = 16
+
 -- a serial: 1 to 16 bytes, each allowed
 unfoldable pub serialOk : List ℕ → Bool
-serialOk y = between 1 16 (length y) && all allowed y
+serialOk y = between 1 mostBytes (length y) && all allowed y
 
 -- sixteen bytes and a length, as a serial travels: the first n are a serial, the unused ones zero
 unfoldable pub validSerial : List ℕ → ℕ → Bool

@@ -6,6 +6,9 @@ ghost use Rattle.rules.specs.Code.{codeStep, codeOf};
 ghost use Rattle.rules.specs.Table.{stateOk, addressOf, splits, contracts};
 use std::num::wrapping_add_u32;
 
+// The most bytes of a serial; it travels in as many.
+pub const SERIAL: usize = 16;
+
 // The fewest and the most buckets of a table.
 pub const LEAST: u32 = 16;
 
@@ -50,7 +53,7 @@ pub extern "C" fn reader_code(bytes: &[u8]) -> u32
 pub fn serial_code(serial: [u8; 16], len: usize) -> u32
     ensures { λ r. ⌜ r ≡ codeOf (take len serial) ⌝ }
 {
-    if len <= 16 {
+    if len <= SERIAL {
         reader_code(&serial[..len])
     } else {
         reader_code(&serial)

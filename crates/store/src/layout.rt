@@ -44,17 +44,17 @@ pub const FIRST_ZERO: usize = 14;
 
 pub const LAST_ZERO: usize = 15;
 
+// The buckets of a segment, and how many segments the most buckets take.
+pub const SEGMENT: u32 = 16;
+
+pub const SEGMENT_COUNT: u32 = TOP / SEGMENT;
+
 // Where the directory, the segments and the card cells begin.
 pub const DIRECTORY: usize = 16;
 
 pub const SEGMENTS: usize = 32;
 
-pub const CARDS: usize = 288;
-
-// The buckets of a segment, and how many segments there are.
-pub const SEGMENT: u32 = 16;
-
-pub const SEGMENT_COUNT: u32 = 16;
+pub const CARDS: usize = SEGMENTS + TOP as usize;
 
 // The fewest buckets and the most; the most, as a bucket, is a free chain.
 pub use rules::LEAST;

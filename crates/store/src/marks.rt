@@ -4,9 +4,10 @@ ghost use Prim.Native.Nat.{_*_, _<_, _≤_};
 ghost use lib.ListN.{length};
 ghost use Rattle.model.specs.Calls.{scratchNeed, cleaned};
 ghost use Rattle.store.specs.Marks.{markAt, markedAt};
+use crate::layout;
 
-// The bytes of scratch that the checker takes.
-pub const NEED: usize = 384;
+// The bytes of scratch that the checker takes: a bit for each cell that a store can have.
+pub const NEED: usize = (layout::MOST_CARDS + layout::MOST_FAULTS) as usize / 8;
 
 // Whether the bit of number k is set: bit k % 8 of byte k / 8.
 pub fn is_marked(scratch: &[u8], k: usize) -> bool

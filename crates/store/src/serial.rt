@@ -74,7 +74,7 @@ pub fn valid_serial(serial: [u8; 16], len: usize) -> bool
     if len < 1 {
         return false;
     }
-    if 16 < len {
+    if rules::SERIAL < len {
         return false;
     }
     if !all_allowed(&serial[..len]) {
