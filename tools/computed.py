@@ -83,10 +83,13 @@ def main():
                "open-all : List ℕ → List ℕ\nunfolding %s\nopen-all x = x\n" % everything)
     out.append("tallied : ℕ → ℕ → ℕ → ℕ → ℕ → ℕ → Job.Tally\n"
                "tallied e w f s c k = record { entries = e; withdrawals = w; filings = f; splits = s; contractions = c; comparisons = k }\n")
+    out.append("-- format 1, with 4 and 2\n"
+               "first : ℕ → ℕ → Shape.Shape\n"
+               "first c f = record { format = 1; limit = c; faultLimit = f; upper = 4; lower = 2 }\n")
     out.append("-- the answers to a text on a fresh store with these limits, and the tally of a job that begins with none\n"
-               "ran : ℕ → ℕ → List ℕ → Job.Run\nunfolding tallied\n"
-               "ran c f text = Job.runLines (Job.linesOf text) 16384 (Job.started (Model.fresh c f) (tallied 0 0 0 0 0 0))\n")
-    out.append("answers : ℕ → ℕ → List ℕ → List ℕ\nunfolding open-all ran tallied\nanswers c f text = ran c f text .text\n")
+               "ran : ℕ → ℕ → List ℕ → Job.Run\nunfolding tallied first\n"
+               "ran c f text = Job.runLines (Job.linesOf text) 16384 (Job.started (Model.fresh (first c f)) (tallied 0 0 0 0 0 0))\n")
+    out.append("answers : ℕ → ℕ → List ℕ → List ℕ\nunfolding open-all ran tallied first\nanswers c f text = ran c f text .text\n")
 
     # the worked job
     out.append(named("worked-in", WORKED))
@@ -101,7 +104,7 @@ def main():
     out.append("-- the words of a fresh store of 8 cards and 8 faults, and after the worked job\n"
                "before : List ℕ\nbefore = %s\n" % numbers(before))
     out.append("after : List ℕ\nafter = %s\n" % numbers(after))
-    out.append(claim("opened", "Calls.openCall (replicate %d 5) 8 8" % len(before),
+    out.append(claim("opened", "Calls.openCall (replicate %d 5) (record { cards = 8; faults = 8 })" % len(before),
                      "(record { number = 0; words = before })", "open-all before"))
     opened = "open-all tallied worked-in worked-out before after"
     out.append("-- the job on words: scratch of other content, output with room past the bytes written\n"
@@ -133,8 +136,8 @@ def main():
     # bucket 7 of a (16, 7) table
     out.append("-- `7`, `07`, `007` in bucket 7 of a (16, 7) table: split to `07` and `7`, `007`, and joined again\n"
                "card : List ℕ → Model.Card\ncard y = record { at = 1; serial = y; faults = [] }\n")
-    out.append("seven : Model.Store\nunfolding card\n"
-               "seven = record { limit = 8; faultLimit = 8; maxp = 16; p = 7; buckets = set (replicate 23 []) 7 (card %s ∷ card %s ∷ card %s ∷ []); free = []; freeFaults = [] }\n"
+    out.append("seven : Model.Store\nunfolding card first\n"
+               "seven = record { shape = first 8 8; maxp = 16; p = 7; buckets = set (replicate 23 []) 7 (card %s ∷ card %s ∷ card %s ∷ []); free = []; freeFaults = [] }\n"
                % tuple(numbers(list(s)) for s in (b"7", b"07", b"007")))
     out.append("serials : Model.Store → ℕ → List (List ℕ)\nserials s b = map (λ c. c .serial) (Model.bucket s b)\n")
     seen = "open-all card seven serials"

@@ -12,7 +12,7 @@ use lib.ListN.{length, take, drop, getD}
 use lib.Seq.{length-take-le, take-take, getD-take}
 use Rattle.model.specs.Serial.{validSerial, validFault}
 use Rattle.model.specs.Layout.{sound, decode}
-use Rattle.model.specs.Calls.{openCall}
+use Rattle.model.specs.Calls.{Terms, shapeFor, openCall}
 use Rattle.model.specs.Plain.{Book}
 use Rattle.model.specs.Runs.{run, events, taken, gone, since, tells, bookAfter, bookTells}
 use Rattle.model.specs.Job.{Line, linesOf, lineOf, padded, answerText}
@@ -62,17 +62,17 @@ as-list w b ms a d = record { answers = d .0 .same-tells; agrees = rw (same-word
 pub program-demand2-from : (w : List ℕ) → sound w ≡ true → (ms : List Made) → AllMeet w ms → AsList w (bookOf (decode w)) ms
 program-demand2-from w ok ms a = as-list w (bookOf (decode w)) ms a (deeds-demand2-from w ok (map askedIn ms))
 
-module _ (w₀ w : List ℕ) (c f : ℕ) (o : Opens (openCall w₀ c f) 0 w) (ms : List Made) (a : AllMeet w ms) where
+module _ (w₀ w : List ℕ) (asked : Terms) (o : Opens (openCall w₀ asked) 0 w) (ms : List Made) (a : AllMeet w ms) where
   pub program-demand3 : Demand3 (endWords w ms) (events w (callsInAll w (map askedIn ms)))
   program-demand3 =
-      let e = opened-words w₀ w c f o in
-      rw (same-words w ms a, e .1) (deeds-demand3 w₀ c f (e .0) (map askedIn ms))
+      let e = opened-words w₀ w asked o in
+      rw (same-words w ms a, e .1) (deeds-demand3 w₀ asked (e .0) (map askedIn ms))
 
   -- from an accepted Open on, with an empty list
-  pub program-demand2 : AsList w (emptyBook c f) ms
+  pub program-demand2 : AsList w (emptyBook (shapeFor asked)) ms
   program-demand2 =
-      let e = opened-words w₀ w c f o in
-      let d = deeds-demand2 w₀ c f (e .0) (map askedIn ms) in as-list w (emptyBook c f) ms a (rw (e .1) d)
+      let e = opened-words w₀ w asked o in
+      let d = deeds-demand2 w₀ asked (e .0) (map askedIn ms) in as-list w (emptyBook (shapeFor asked)) ms a (rw (e .1) d)
 
   -- a further job, and line k of it, which was answered
   module _ (scratch text out : List ℕ) (t : Tally) (l : Left) (e : Works (endWords w ms) scratch text out t l) (k : ℕ) (h : k < l .done .lines) where
@@ -108,6 +108,6 @@ module _ (w₀ w : List ℕ) (c f : ℕ) (o : Opens (openCall w₀ c f) 0 w) (ms
     pub filing-answered : (field : List ℕ) (day code : ℕ) → lineOf line ≡ Line.file field day code
         → validSerial (padded field) (length field) ≡ true → validFault day code ≡ true → length (look (decode reached) (take (length field) (padded field))) ≡ 1
         → let es = events w (callsInAll w (map askedIn ms) ++ callsOf earlier) in
-        (stepBy reached (actsOf (lineOf line)) .answer .number ≡ 9) ↔ (since taken es 0 - since gone es 0 ≡ decode reached .faultLimit)
+        (stepBy reached (actsOf (lineOf line)) .answer .number ≡ 9) ↔ (since taken es 0 - since gone es 0 ≡ decode reached .shape .faultLimit)
     filing-answered field day code is =
-        let q = opened-words w₀ w c f o in rw (same-words w ms a, q .1) (filing-line w₀ c f (q .0) (map askedIn ms) earlier line field day code is)
+        let q = opened-words w₀ w asked o in rw (same-words w ms a, q .1) (filing-line w₀ asked (q .0) (map askedIn ms) earlier line field day code is)

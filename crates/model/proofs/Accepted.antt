@@ -1,4 +1,4 @@
--- What an accepted call does to a good store: it stays good, the card of each serial, every sum over the cards, and the limits. An entry
+-- What an accepted call does to a good store: it stays good, the card of each serial, every sum over the cards, and the shape. An entry
 -- and a withdrawal are the step and then the load rule, which changes nothing that is held, so their laws are those of the step.
 -- A fresh store is good and shows no card of any serial.
 use Prim.Native.Nat.{ℕ, _+_, _<_}
@@ -7,12 +7,12 @@ use mathlib.Core.List.{List, [], _∷_, _++_}
 use mathlib.Core.Bool.{true, cond}
 use native.Mathlib.Omega.{arith}
 use lib.ListN.{length}
-use Rattle.rules.specs.Table.{splits, contracts}
 use Rattle.rules.proofs.Tests.{by-cases}
 use Rattle.model.specs.Lists.{same, total}
 use Rattle.model.specs.Serial.{serialOk, validFault}
-use Rattle.model.specs.Model.{Card, Store, cards, held, faultsHeld, size, fresh, newCard, placed, split, grown, entered, filed, removed, contract, shrunk, withdrawn}
-use Rattle.model.specs.Layout.{limitsOk}
+use Rattle.model.specs.Shape.{Shape}
+use Rattle.model.specs.Model.{Card, Store, cards, held, faultsHeld, over, under, fresh, newCard, placed, split, grown, entered, filed, removed, contract, shrunk, withdrawn}
+use Rattle.model.specs.Layout.{shapeOk}
 use Rattle.model.proofs.Sums.{length-total}
 use Rattle.model.proofs.Fair.{one, Fair, Good}
 use Rattle.model.proofs.Look.{look, look-cards}
@@ -20,36 +20,32 @@ use Rattle.model.proofs.Steps.{placed-total, placed-look, placed-fair, 
 use Rattle.model.proofs.Fresh.{fair-fresh}
 use Rattle.model.proofs.Growth.{grown-total, grown-look, grown-good, shrunk-total, shrunk-look, shrunk-good}
 
--- the limits never change
+-- the shape never changes
 
-pub record SameLimits (s t : Store) : Type 0 where
-  pub limit : t .limit ≡ s .limit
-  pub faultLimit : t .faultLimit ≡ s .faultLimit
-
-grown-limits : (s : Store) → SameLimits s (grown s)
+grown-shape : (s : Store) → grown s .shape ≡ s .shape
 unfolding grown split
-grown-limits s = by-cases (splits (held s) (size s)) (λ e. rw e (record { limit = refl; faultLimit = refl })) (λ e. rw e (record { limit = refl; faultLimit = refl }))
+grown-shape s = by-cases (over s) (λ e. rw e) (λ e. rw e)
 
-shrunk-limits : (s : Store) → SameLimits s (shrunk s)
+shrunk-shape : (s : Store) → shrunk s .shape ≡ s .shape
 unfolding shrunk contract
-shrunk-limits s = by-cases (contracts (held s) (size s)) (λ e. rw e (record { limit = refl; faultLimit = refl })) (λ e. rw e (record { limit = refl; faultLimit = refl }))
+shrunk-shape s = by-cases (under s) (λ e. rw e) (λ e. rw e)
 
-pub entered-limits : (s : Store) (y : List ℕ) → SameLimits s (entered s y)
+pub entered-shape : (s : Store) (y : List ℕ) → entered s y .shape ≡ s .shape
 unfolding entered placed
-entered-limits s y = let h = grown-limits (placed s y) in record { limit = h .limit; faultLimit = h .faultLimit }
+entered-shape s y = grown-shape (placed s y)
 
-pub filed-limits : (s : Store) (y : List ℕ) (day code : ℕ) → SameLimits s (filed s y day code)
+pub filed-shape : (s : Store) (y : List ℕ) (day code : ℕ) → filed s y day code .shape ≡ s .shape
 unfolding filed
-filed-limits s y day code = record { limit = refl; faultLimit = refl }
+filed-shape s y day code = refl
 
-pub withdrawn-limits : (s : Store) (y : List ℕ) → SameLimits s (withdrawn s y)
+pub withdrawn-shape : (s : Store) (y : List ℕ) → withdrawn s y .shape ≡ s .shape
 unfolding withdrawn removed
-withdrawn-limits s y = let h = shrunk-limits (removed s y) in record { limit = h .limit; faultLimit = h .faultLimit }
+withdrawn-shape s y = shrunk-shape (removed s y)
 
 -- the three calls that change a store
 
 module _ (s : Store) (r : Fair s) (y : List ℕ) where
-  module _ (valid : serialOk y ≡ true) (new : look s y ≡ []) (room : held s < s .limit) where
+  module _ (valid : serialOk y ≡ true) (new : look s y ≡ []) (room : held s < s .shape .limit) where
     pub entered-total : (w : Card → ℕ) → total w (cards (entered s y)) ≡ total w (cards s) + w (newCard s y)
     unfolding entered
     entered-total w = grown-total (placed s y) (placed-fair s r y valid new room) w ∙ placed-total s r y w
@@ -71,30 +67,30 @@ held-more : (s t : Store) (k : ℕ) → total one (cards t) ≡ total one (cards
 held-more s t k e = omega (arith, length-total (cards s), length-total (cards t))
 
 module _ (s : Store) (g : Good s) (y : List ℕ) where
-  pub entered-good : serialOk y ≡ true → look s y ≡ [] → held s < s .limit → Good (entered s y)
+  pub entered-good : serialOk y ≡ true → look s y ≡ [] → held s < s .shape .limit → Good (entered s y)
   unfolding entered placed
   entered-good valid new room =
       let n = held-more s (placed s y) 1 (placed-total s (g .fair) y one) in
-      grown-good (placed s y) (placed-fair s (g .fair) y valid new room) (omega (arith, g .high)) (λ h. omega (arith, g .low h))
+      grown-good (placed s y) (placed-fair s (g .fair) y valid new room) (λ k. omega (arith, g .high k)) (λ h. omega (arith, g .low h))
 
-  pub filed-good : (day code : ℕ) → validFault day code ≡ true → length (look s y) ≡ 1 → faultsHeld s < s .faultLimit → Good (filed s y day code)
+  pub filed-good : (day code : ℕ) → validFault day code ≡ true → length (look s y) ≡ 1 → faultsHeld s < s .shape .faultLimit → Good (filed s y day code)
   unfolding filed
   filed-good day code valid held room =
       let n = held-more s (filed s y day code) 0 (filed-total s (g .fair) y day code one 0 (λ c. refl) held) in
-      record { fair = filed-fair s (g .fair) y day code valid held room; high = omega (arith, g .high); low = λ h. omega (arith, g .low h) }
+      record { fair = filed-fair s (g .fair) y day code valid held room; high = λ k. omega (arith, g .high k); low = λ h. omega (arith, g .low h) }
 
   pub withdrawn-good : length (look s y) ≡ 1 → Good (withdrawn s y)
   unfolding withdrawn removed
   withdrawn-good held =
       let n = held-more (removed s y) s 1 (omega (arith, removed-total s (g .fair) y one, length-total (look s y))) in
-      shrunk-good (removed s y) (removed-fair s (g .fair) y) (omega (arith, g .high)) (λ h. omega (arith, g .low h))
+      shrunk-good (removed s y) (removed-fair s (g .fair) y) (λ k. omega (arith, g .high k)) (λ h. omega (arith, g .low h))
 
 -- a fresh store holds no card
 
-pub fresh-good : (c f : ℕ) → limitsOk c f ≡ true → Good (fresh c f)
+pub fresh-good : (sh : Shape) → shapeOk sh ≡ true → Good (fresh sh)
 unfolding fresh
-fresh-good c f ok = record { fair = fair-fresh c f ok; high = omega arith; low = omega arith }
+fresh-good sh ok = record { fair = fair-fresh sh ok; high = λ h. omega arith; low = omega arith }
 
-pub fresh-look : (c f : ℕ) → limitsOk c f ≡ true → (x : List ℕ) → look (fresh c f) x ≡ []
+pub fresh-look : (sh : Shape) → shapeOk sh ≡ true → (x : List ℕ) → look (fresh sh) x ≡ []
 unfolding fresh
-fresh-look c f ok x = sym (look-cards (fresh c f) (fair-fresh c f ok) x)
+fresh-look sh ok x = sym (look-cards (fresh sh) (fair-fresh sh ok) x)

@@ -7,7 +7,8 @@
 use Prim.Native.Nat.{ℕ, _<_}
 use mathlib.Core.Path.{_≡_}
 use mathlib.Core.List.{List, [], _∷_, List·Memᴰ}
-use Rattle.rules.specs.Table.{least, top}
+use Rattle.rules.specs.Table.{least}
+use Rattle.model.specs.Shape.{topOf}
 use Rattle.model.specs.Lists.{total}
 use Rattle.model.specs.Model.{Card, Store, cards, size, bucket, addressIn, split, grown, contract, shrunk}
 use Rattle.model.proofs.Fair.{Fair}
@@ -22,7 +23,7 @@ pub fair-in-place : (s : Store) → Fair s → InPlace s
 fair-in-place s r b c m = (card-home s r b c m, card-found s r b c m)
 
 -- a bucket more
-module _ (s : Store) (r : Fair s) (more : size s < top) where
+module _ (s : Store) (r : Fair s) (more : size s < topOf (s .shape)) where
   pub split-keeps-history : (x : List ℕ) → look (split s) x ≡ look s x
   split-keeps-history = split-look s r more
 

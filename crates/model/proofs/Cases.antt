@@ -22,10 +22,10 @@ unfolding validSerial
 valid-serial bytes n e = both (serialOk (take n bytes)) _ (both (eqb (length (take n bytes)) n) _ e .1) .0
 
 -- no more cards or faults are held than there are cells
-pub cards-fit : (s : Store) → Good s → held s ≤ s .limit
+pub cards-fit : (s : Store) → Good s → held s ≤ s .shape .limit
 cards-fit s g = omega (arith, card-count s, g .fair .cells .count)
 
-pub faults-fit : (s : Store) → Good s → faultsHeld s ≤ s .faultLimit
+pub faults-fit : (s : Store) → Good s → faultsHeld s ≤ s .shape .faultLimit
 faults-fit s g = omega (arith, fault-count s, g .fair .faultCells .count)
 
 -- what the search answers: the comparisons in the chain of a serial
@@ -47,8 +47,8 @@ module _ (s : Store) (g : Good s) (bytes : List ℕ) (n : ℕ) (P : Step → Typ
   pub enter-cases :
       (validSerial bytes n ≡ false → P (stays (refused 4) s []))
       → (validSerial bytes n ≡ true → length (look s (take n bytes)) ≡ 1 → P (stays (gives 6 (place s (take n bytes)) 0 0) s []))
-      → (validSerial bytes n ≡ true → look s (take n bytes) ≡ [] → held s ≡ s .limit → P (stays (gives 8 (place s (take n bytes)) 0 0) s []))
-      → (validSerial bytes n ≡ true → look s (take n bytes) ≡ [] → held s < s .limit
+      → (validSerial bytes n ≡ true → look s (take n bytes) ≡ [] → held s ≡ s .shape .limit → P (stays (gives 8 (place s (take n bytes)) 0 0) s []))
+      → (validSerial bytes n ≡ true → look s (take n bytes) ≡ [] → held s < s .shape .limit
       → P (stays (gives 0 (place s (take n bytes)) (splitScan (placed s (take n bytes))) 0) (entered s (take n bytes)) []))
       → P (enterStep s bytes n)
   unfolding enterStep
@@ -57,18 +57,18 @@ module _ (s : Store) (g : Good s) (bytes : List ℕ) (n : ℕ) (P : Step → Typ
       by-cases (validSerial bytes n)
       (λ v. rw v (by-cases (eqb (length (look s y)) 1)
       (λ e. rw e (twice v (eqb-true (length (look s y)) 1 e)))
-      (λ e. rw e (by-cases (eqb (held s) (s .limit))
-      (λ f. rw f (full v (not-one s g y e) (eqb-true (held s) (s .limit) f)))
-      (λ f. rw f (done v (not-one s g y e) (omega (arith, eqb-false (held s) (s .limit) f, cards-fit s g))))))))
+      (λ e. rw e (by-cases (eqb (held s) (s .shape .limit))
+      (λ f. rw f (full v (not-one s g y e) (eqb-true (held s) (s .shape .limit) f)))
+      (λ f. rw f (done v (not-one s g y e) (omega (arith, eqb-false (held s) (s .shape .limit) f, cards-fit s g))))))))
       (λ v. rw v (invalid v))
 
   pub file-cases : (day code : ℕ)
       → (validSerial bytes n ≡ false → P (stays (refused 4) s []))
       → (validSerial bytes n ≡ true → validFault day code ≡ false → P (stays (refused 5) s []))
       → (validSerial bytes n ≡ true → validFault day code ≡ true → look s (take n bytes) ≡ [] → P (stays (gives 7 (place s (take n bytes)) 0 0) s []))
-      → (validSerial bytes n ≡ true → validFault day code ≡ true → length (look s (take n bytes)) ≡ 1 → faultsHeld s ≡ s .faultLimit
+      → (validSerial bytes n ≡ true → validFault day code ≡ true → length (look s (take n bytes)) ≡ 1 → faultsHeld s ≡ s .shape .faultLimit
       → P (stays (gives 9 (place s (take n bytes)) 0 0) s []))
-      → (validSerial bytes n ≡ true → validFault day code ≡ true → length (look s (take n bytes)) ≡ 1 → faultsHeld s < s .faultLimit
+      → (validSerial bytes n ≡ true → validFault day code ≡ true → length (look s (take n bytes)) ≡ 1 → faultsHeld s < s .shape .faultLimit
       → P (stays (gives 0 (place s (take n bytes)) 0 (length (historyIn s (take n bytes)) + 1)) (filed s (take n bytes) day code) []))
       → P (fileStep s bytes n day code)
   unfolding fileStep
@@ -78,9 +78,9 @@ module _ (s : Store) (g : Good s) (bytes : List ℕ) (n : ℕ) (P : Step → Typ
       (λ v. rw v (by-cases (validFault day code)
       (λ w. rw w (by-cases (eqb (length (look s y)) 0)
       (λ e. rw e (missing v w (none s g y e)))
-      (λ e. rw e (by-cases (eqb (faultsHeld s) (s .faultLimit))
-      (λ f. rw f (full v w (not-none s g y e) (eqb-true (faultsHeld s) (s .faultLimit) f)))
-      (λ f. rw f (done v w (not-none s g y e) (omega (arith, eqb-false (faultsHeld s) (s .faultLimit) f, faults-fit s g))))))))
+      (λ e. rw e (by-cases (eqb (faultsHeld s) (s .shape .faultLimit))
+      (λ f. rw f (full v w (not-none s g y e) (eqb-true (faultsHeld s) (s .shape .faultLimit) f)))
+      (λ f. rw f (done v w (not-none s g y e) (omega (arith, eqb-false (faultsHeld s) (s .shape .faultLimit) f, faults-fit s g))))))))
       (λ w. rw w (bad v w))))
       (λ v. rw v (invalid v))
 

@@ -8,27 +8,35 @@ use Rattle.rules.specs.Code as Code
 use Rattle.rules.specs.Table as Table
 use Rattle.model.specs.Lists as Lists
 use Rattle.model.specs.Serial as Serial
+use Rattle.model.specs.Shape as Shape
 use Rattle.model.specs.Model as Model
 use Rattle.model.specs.Layout as Layout
+use Rattle.model.specs.Meaning as Meaning
+use Rattle.model.specs.Words as Words
 use Rattle.model.specs.Calls as Calls
 use Rattle.model.specs.Plain as Plain
 use Rattle.model.specs.Job as Job
+use Rattle.model.specs.Deeds as Deeds
 
 -- to unfold this is to unfold every definition of the rules and the model
 open-all : List ℕ → List ℕ
-unfolding Code.codeFrom Code.codeOf Table.sizeOk Table.stateOk Table.bucketOf Table.addressOf Table.splits Table.contracts Table.highMaxp Table.highP Table.lowMaxp Table.lowP Lists.between Serial.allowed Serial.serialOk Serial.validSerial Serial.validFault Model.comparisons Model.fresh Model.split Model.grown Model.splitScan Model.contract Model.shrunk Model.contractScan Model.placed Model.entered Model.filed Model.removed Model.withdrawn Layout.cardsAt Layout.faultsAt Layout.lengthFor Layout.limitsOk Layout.cellAt Layout.last Layout.packed Layout.cardCell Layout.faultCell Layout.freeCell Layout.part Layout.header Layout.directory Layout.segments Layout.front Layout.encode Layout.follow Layout.bytesOf Layout.cardWord Layout.faultWord Layout.readFault Layout.readCard Layout.readChain Layout.decode Layout.eachOnce Layout.goodCard Layout.goodBuckets Layout.cellsOk Layout.serialsOk Layout.loadOk Layout.fair Layout.good Layout.sound Calls.scratchNeed Calls.cleaned Calls.enterStep Calls.fileStep Calls.showStep Calls.withdrawStep Calls.call Calls.openCall Plain.bookOpen Plain.bookEnter Plain.bookFile Plain.bookShow Plain.bookWithdraw Job.onto Job.fields Job.dropEmptyLast Job.linesOf Job.isNumber Job.valueFrom Job.padded Job.two Job.four Job.fromFields Job.lineOf Job.enough Job.stepOf Job.digits Job.decimal Job.pairText Job.listed Job.answerText Job.tallyTop Job.plus Job.one Job.kind Job.counted Job.runLines Job.mostText Job.job
+unfolding Code.codeFrom Code.codeOf Table.sizeOk Table.stateOk Table.bucketOf Table.addressOf Table.splits Table.contracts Table.highMaxp Table.highP Table.lowMaxp Table.lowP Lists.between Serial.allowed Serial.serialOk Serial.validSerial Serial.validFault Shape.entries Model.comparisons Model.fresh Model.split Model.grown Model.splitScan Model.contract Model.shrunk Model.contractScan Model.placed Model.entered Model.filed Model.removed Model.withdrawn Layout.cardWidth Layout.cardsAt Layout.faultsAt Layout.lengthFor Layout.limitsOk Layout.formatOk Layout.boundsWord Layout.ruleWord Layout.shapeOk Layout.shapeOf Layout.cellAt Layout.last Layout.packed Layout.cardCell Layout.faultCell Layout.freeCell Layout.part Layout.header Layout.directory Layout.segments Layout.front Layout.encode Layout.follow Layout.bytesOf Layout.cardWord Layout.faultWord Layout.readFault Layout.readCard Layout.readChain Layout.decodeAs Layout.eachOnce Layout.goodCard Layout.goodBuckets Layout.cellsOk Layout.serialsOk Layout.loadOk Layout.fair Layout.good Layout.sound Meaning.bucketCells Meaning.freeCells Meaning.historyCells Meaning.freeFaultCells Meaning.heldCells Meaning.filedCells Meaning.bytesIn Meaning.serialIn Words.linkAt Words.newWords Words.placeWords Words.fileWords Words.clearWords Words.giveWords Words.removeWords Words.openWords Words.closeWords Words.movesAt Words.partWords Words.splitWords Words.growWords Words.joinWords Words.shrinkWords Calls.scratchNeed Calls.cleaned Calls.enterStep Calls.fileStep Calls.showStep Calls.withdrawStep Calls.call Calls.shapeFor Calls.openCall Plain.bookOpen Plain.bookEnter Plain.bookFile Plain.bookShow Plain.bookWithdraw Job.onto Job.fields Job.dropEmptyLast Job.linesOf Job.isNumber Job.valueFrom Job.padded Job.two Job.four Job.fromFields Job.lineOf Job.enough Job.stepOf Job.digits Job.decimal Job.pairText Job.listed Job.answerText Job.tallyTop Job.plus Job.one Job.kind Job.counted Job.runLines Job.mostText Job.job Deeds.tidy
 open-all x = x
 
 tallied : ℕ → ℕ → ℕ → ℕ → ℕ → ℕ → Job.Tally
 tallied e w f s c k = record { entries = e; withdrawals = w; filings = f; splits = s; contractions = c; comparisons = k }
 
+-- format 1, with 4 and 2
+first : ℕ → ℕ → Shape.Shape
+first c f = record { format = 1; limit = c; faultLimit = f; upper = 4; lower = 2 }
+
 -- the answers to a text on a fresh store with these limits, and the tally of a job that begins with none
 ran : ℕ → ℕ → List ℕ → Job.Run
-unfolding tallied
-ran c f text = Job.runLines (Job.linesOf text) 16384 (Job.started (Model.fresh c f) (tallied 0 0 0 0 0 0))
+unfolding tallied first
+ran c f text = Job.runLines (Job.linesOf text) 16384 (Job.started (Model.fresh (first c f)) (tallied 0 0 0 0 0 0))
 
 answers : ℕ → ℕ → List ℕ → List ℕ
-unfolding open-all ran tallied
+unfolding open-all ran tallied first
 answers c f text = ran c f text .text
 
 -- `E 7⏎E 007⏎F 007 100 12⏎S 7⏎S 007⏎E 7⏎W 007⏎S 007⏎F 7 0 5⏎`
@@ -55,7 +63,7 @@ before = (1 ∷ 8 ∷ 8 ∷ 16 ∷ 0 ∷ 0 ∷ 0 ∷ 1 ∷ 1 ∷ 16 ∷ 32 ∷ 2
 after : List ℕ
 after = (1 ∷ 8 ∷ 8 ∷ 16 ∷ 0 ∷ 1 ∷ 0 ∷ 2 ∷ 1 ∷ 16 ∷ 32 ∷ 288 ∷ 360 ∷ 384 ∷ 0 ∷ 0 ∷ 32 ∷ 0 ∷ 0 ∷ 0 ∷ 0 ∷ 0 ∷ 0 ∷ 0 ∷ 0 ∷ 0 ∷ 0 ∷ 0 ∷ 0 ∷ 0 ∷ 0 ∷ 0 ∷ 0 ∷ 0 ∷ 0 ∷ 0 ∷ 0 ∷ 0 ∷ 0 ∷ 1 ∷ 0 ∷ 0 ∷ 0 ∷ 0 ∷ 0 ∷ 0 ∷ 0 ∷ 0 ∷ 0 ∷ 0 ∷ 0 ∷ 0 ∷ 0 ∷ 0 ∷ 0 ∷ 0 ∷ 0 ∷ 0 ∷ 0 ∷ 0 ∷ 0 ∷ 0 ∷ 0 ∷ 0 ∷ 0 ∷ 0 ∷ 0 ∷ 0 ∷ 0 ∷ 0 ∷ 0 ∷ 0 ∷ 0 ∷ 0 ∷ 0 ∷ 0 ∷ 0 ∷ 0 ∷ 0 ∷ 0 ∷ 0 ∷ 0 ∷ 0 ∷ 0 ∷ 0 ∷ 0 ∷ 0 ∷ 0 ∷ 0 ∷ 0 ∷ 0 ∷ 0 ∷ 0 ∷ 0 ∷ 0 ∷ 0 ∷ 0 ∷ 0 ∷ 0 ∷ 0 ∷ 0 ∷ 0 ∷ 0 ∷ 0 ∷ 0 ∷ 0 ∷ 0 ∷ 0 ∷ 0 ∷ 0 ∷ 0 ∷ 0 ∷ 0 ∷ 0 ∷ 0 ∷ 0 ∷ 0 ∷ 0 ∷ 0 ∷ 0 ∷ 0 ∷ 0 ∷ 0 ∷ 0 ∷ 0 ∷ 0 ∷ 0 ∷ 0 ∷ 0 ∷ 0 ∷ 0 ∷ 0 ∷ 0 ∷ 0 ∷ 0 ∷ 0 ∷ 0 ∷ 0 ∷ 0 ∷ 0 ∷ 0 ∷ 0 ∷ 0 ∷ 0 ∷ 0 ∷ 0 ∷ 0 ∷ 0 ∷ 0 ∷ 0 ∷ 0 ∷ 0 ∷ 0 ∷ 0 ∷ 0 ∷ 0 ∷ 0 ∷ 0 ∷ 0 ∷ 0 ∷ 0 ∷ 0 ∷ 0 ∷ 0 ∷ 0 ∷ 0 ∷ 0 ∷ 0 ∷ 0 ∷ 0 ∷ 0 ∷ 0 ∷ 0 ∷ 0 ∷ 0 ∷ 0 ∷ 0 ∷ 0 ∷ 0 ∷ 0 ∷ 0 ∷ 0 ∷ 0 ∷ 0 ∷ 0 ∷ 0 ∷ 0 ∷ 0 ∷ 0 ∷ 0 ∷ 0 ∷ 0 ∷ 0 ∷ 0 ∷ 0 ∷ 0 ∷ 0 ∷ 0 ∷ 0 ∷ 0 ∷ 0 ∷ 0 ∷ 0 ∷ 0 ∷ 0 ∷ 0 ∷ 0 ∷ 0 ∷ 0 ∷ 0 ∷ 0 ∷ 0 ∷ 0 ∷ 0 ∷ 0 ∷ 0 ∷ 0 ∷ 0 ∷ 0 ∷ 0 ∷ 0 ∷ 0 ∷ 0 ∷ 0 ∷ 0 ∷ 0 ∷ 0 ∷ 0 ∷ 0 ∷ 0 ∷ 0 ∷ 0 ∷ 0 ∷ 0 ∷ 0 ∷ 0 ∷ 0 ∷ 0 ∷ 0 ∷ 0 ∷ 0 ∷ 0 ∷ 0 ∷ 0 ∷ 0 ∷ 0 ∷ 0 ∷ 0 ∷ 0 ∷ 0 ∷ 0 ∷ 0 ∷ 0 ∷ 0 ∷ 0 ∷ 0 ∷ 0 ∷ 0 ∷ 0 ∷ 0 ∷ 0 ∷ 0 ∷ 0 ∷ 0 ∷ 0 ∷ 0 ∷ 0 ∷ 0 ∷ 0 ∷ 0 ∷ 0 ∷ 0 ∷ 0 ∷ 0 ∷ 0 ∷ 0 ∷ 0 ∷ 0 ∷ 0 ∷ 0 ∷ 0 ∷ 0 ∷ 0 ∷ 0 ∷ 0 ∷ 0 ∷ 0 ∷ 0 ∷ 0 ∷ 1 ∷ 922746880 ∷ 0 ∷ 0 ∷ 0 ∷ 0 ∷ 0 ∷ 0 ∷ 3 ∷ 0 ∷ 0 ∷ 0 ∷ 0 ∷ 0 ∷ 0 ∷ 0 ∷ 0 ∷ 4 ∷ 0 ∷ 0 ∷ 0 ∷ 0 ∷ 0 ∷ 0 ∷ 0 ∷ 0 ∷ 5 ∷ 0 ∷ 0 ∷ 0 ∷ 0 ∷ 0 ∷ 0 ∷ 0 ∷ 0 ∷ 6 ∷ 0 ∷ 0 ∷ 0 ∷ 0 ∷ 0 ∷ 0 ∷ 0 ∷ 0 ∷ 7 ∷ 0 ∷ 0 ∷ 0 ∷ 0 ∷ 0 ∷ 0 ∷ 0 ∷ 0 ∷ 8 ∷ 0 ∷ 0 ∷ 0 ∷ 0 ∷ 0 ∷ 0 ∷ 0 ∷ 0 ∷ 0 ∷ 0 ∷ 0 ∷ 0 ∷ 0 ∷ 0 ∷ 0 ∷ 0 ∷ 0 ∷ 2 ∷ 0 ∷ 0 ∷ 3 ∷ 0 ∷ 0 ∷ 4 ∷ 0 ∷ 0 ∷ 5 ∷ 0 ∷ 0 ∷ 6 ∷ 0 ∷ 0 ∷ 7 ∷ 0 ∷ 0 ∷ 8 ∷ 0 ∷ 0 ∷ 0 ∷ 0 ∷ 0 ∷ [])
 
-opened : Calls.openCall (replicate 384 5) 8 8 ≡ (record { number = 0; words = before })
+opened : Calls.openCall (replicate 384 5) (record { cards = 8; faults = 8 }) ≡ (record { number = 0; words = before })
 unfolding open-all before
 opened = refl
 
@@ -94,8 +102,8 @@ card : List ℕ → Model.Card
 card y = record { at = 1; serial = y; faults = [] }
 
 seven : Model.Store
-unfolding card
-seven = record { limit = 8; faultLimit = 8; maxp = 16; p = 7; buckets = set (replicate 23 []) 7 (card (55 ∷ []) ∷ card (48 ∷ 55 ∷ []) ∷ card (48 ∷ 48 ∷ 55 ∷ []) ∷ []); free = []; freeFaults = [] }
+unfolding card first
+seven = record { shape = first 8 8; maxp = 16; p = 7; buckets = set (replicate 23 []) 7 (card (55 ∷ []) ∷ card (48 ∷ 55 ∷ []) ∷ card (48 ∷ 48 ∷ 55 ∷ []) ∷ []); free = []; freeFaults = [] }
 
 serials : Model.Store → ℕ → List (List ℕ)
 serials s b = map (λ c. c .serial) (Model.bucket s b)

@@ -13,7 +13,7 @@ use Rattle.rules.proofs.Tests.{by-cases}
 use Rattle.model.specs.Serial.{validSerial, validFault}
 use Rattle.model.specs.Model.{Store}
 use Rattle.model.specs.Layout.{encode, decode, sound}
-use Rattle.model.specs.Calls.{Step, scratchNeed, openCall}
+use Rattle.model.specs.Calls.{Terms, shapeFor, Step, scratchNeed, openCall}
 use Rattle.model.specs.Runs.{Act, perform, Call, Call.acting, wordsAfter, run, events, taken, gone, since}
 use Rattle.model.specs.Job.{Line, linesOf, padded, lineOf, enough, stepOf, answerText, Tally, counted, Run, runLines, started, Finished, mostText, job}
 use Rattle.model.specs.Deeds.{actsOf, tidy, callsBy, callsOf, stepBy, saidBy, said, Deed, Deed.calling, Deed.working, wordsBy, wordsByAll, callsIn, callsInAll}
@@ -183,28 +183,28 @@ pub deeds-demand2-from : (w : List ℕ) → sound w ≡ true → (ds : List Deed
 deeds-demand2-from w ok ds = (demand2-from w ok (callsInAll w ds), deeds-run w ok ds)
 
 -- the demands over calls and jobs in any order after an accepted Open
-module _ (w₀ : List ℕ) (c f : ℕ) (accepted : openCall w₀ c f .number ≡ 0) where
+module _ (w₀ : List ℕ) (t : Terms) (accepted : openCall w₀ t .number ≡ 0) where
   abbrev w : List ℕ
-  w = openCall w₀ c f .words
+  w = openCall w₀ t .words
 
   ok : sound w ≡ true
-  ok = let o = opened-fresh w₀ c f accepted in rw (o .1) (fresh-sound c f (o .0))
+  ok = let o = opened-fresh w₀ t accepted in rw (o .1) (fresh-sound (shapeFor t) (o .0))
 
   pub deeds-demand3 : (ds : List Deed) → Demand3 (wordsByAll w ds) (events w (callsInAll w ds))
-  deeds-demand3 ds = rw (deeds-run w ok ds) (demand3 w₀ c f accepted (callsInAll w ds))
+  deeds-demand3 ds = rw (deeds-run w ok ds) (demand3 w₀ t accepted (callsInAll w ds))
 
-  pub deeds-demand2 : (ds : List Deed) → Demand2 w (emptyBook c f) (callsInAll w ds) × (wordsByAll w ds ≡ run w (callsInAll w ds))
-  deeds-demand2 ds = (demand2 w₀ c f accepted (callsInAll w ds), deeds-run w ok ds)
+  pub deeds-demand2 : (ds : List Deed) → Demand2 w (emptyBook (shapeFor t)) (callsInAll w ds) × (wordsByAll w ds ≡ run w (callsInAll w ds))
+  deeds-demand2 ds = (demand2 w₀ t accepted (callsInAll w ds), deeds-run w ok ds)
 
   -- the same in the middle of a job, before the line that some lines lead to
   pub at-a-line : (ds : List Deed) (xs : List (List ℕ)) → Demand3 (run (wordsByAll w ds) (callsOf xs)) (events w (callsInAll w ds ++ callsOf xs))
   at-a-line ds xs =
-      rw (deeds-run w ok ds, ← (run-append w (callsInAll w ds) (callsOf xs))) (demand3 w₀ c f accepted (callsInAll w ds ++ callsOf xs))
+      rw (deeds-run w ok ds, ← (run-append w (callsInAll w ds) (callsOf xs))) (demand3 w₀ t accepted (callsInAll w ds ++ callsOf xs))
 
   -- a filing line that is reached, on a valid serial that is held, with day and code in range: 9 exactly at the fault limit
   pub filing-line : (ds : List Deed) (xs : List (List ℕ)) (x field : List ℕ) (day code : ℕ) → lineOf x ≡ Line.file field day code
       → validSerial (padded field) (length field) ≡ true → validFault day code ≡ true
       → length (look (decode (run (wordsByAll w ds) (callsOf xs))) (take (length field) (padded field))) ≡ 1
       → (stepBy (run (wordsByAll w ds) (callsOf xs)) (actsOf (lineOf x)) .answer .number ≡ 9)
-      ↔ (since taken (events w (callsInAll w ds ++ callsOf xs)) 0 - since gone (events w (callsInAll w ds ++ callsOf xs)) 0 ≡ decode (run (wordsByAll w ds) (callsOf xs)) .faultLimit)
+      ↔ (since taken (events w (callsInAll w ds ++ callsOf xs)) 0 - since gone (events w (callsInAll w ds ++ callsOf xs)) 0 ≡ decode (run (wordsByAll w ds) (callsOf xs)) .shape .faultLimit)
   filing-line ds xs x field day code e v u one = rw e (at-a-line ds xs .room tidy (padded field) (length field) day code tidy-long v u one)

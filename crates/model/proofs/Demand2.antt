@@ -12,8 +12,9 @@ use borrow.Author.Tests.{eq-eqb, ne-eqb, lt-ltb, le-ltb}
 use Rattle.rules.proofs.Tests.{by-cases}
 use Rattle.model.specs.Lists.{same, keep, total}
 use Rattle.model.specs.Serial.{serialOk}
+use Rattle.model.specs.Shape.{Shape}
 use Rattle.model.specs.Model.{Fault, Card, Store, cards, histories, held, faultsHeld, newCard, newFault, withFault, historyIn, fresh, entered, filed, withdrawn}
-use Rattle.model.specs.Layout.{limitsOk}
+use Rattle.model.specs.Layout.{shapeOk}
 use Rattle.model.specs.Calls.{Step, pairs, enterStep, fileStep, showStep, withdrawStep}
 use Rattle.model.specs.Plain.{Slip, slip, Entry, entry, plain, lookUp, slipsIn, slipsOf, slipPairs, Book, Reply, withEntries, withSlip, bookEnter, bookFile, bookShow, bookWithdraw}
 use Rattle.model.specs.Runs.{Act, Act.enter, Act.file, Act.show, Act.withdraw, perform, consult}
@@ -22,7 +23,7 @@ use Rattle.model.proofs.Sums.{total-append, total-map, total-keep, tota
 use Rattle.model.proofs.Fair.{one, filings, Fair, Good, faults-total}
 use Rattle.model.proofs.Look.{look, look-cards}
 use Rattle.model.proofs.Steps.{filed-look, filed-total}
-use Rattle.model.proofs.Accepted.{entered-limits, filed-limits, withdrawn-limits, entered-look, entered-total, withdrawn-look, withdrawn-total, fresh-look}
+use Rattle.model.proofs.Accepted.{entered-shape, filed-shape, withdrawn-shape, entered-look, entered-total, withdrawn-look, withdrawn-total, fresh-look}
 use Rattle.model.proofs.Cases.{valid-serial, enter-cases, file-cases, show-cases, withdraw-cases}
 
 -- a card and its entry
@@ -45,8 +46,7 @@ entries-slips (c ∷ l) = rw (entries-slips l, length-map (c .faults) slip)
 
 -- for each serial the book has what the store has, and the counts are equal
 pub record Agrees (b : Book) (s : Store) : Type 0 where
-  pub limit : b .limit ≡ s .limit
-  pub faultLimit : b .faultLimit ≡ s .faultLimit
+  pub shape : b .shape ≡ s .shape
   pub under : (x : List ℕ) → lookUp x (b .entries) ≡ map entry (look s x)
   pub number : length (b .entries) ≡ held s
   pub slips : slipsIn (b .entries) ≡ faultsHeld s
@@ -60,25 +60,24 @@ pub record Match (r : Step) (q : Reply) : Type 0 where
 
 -- the store itself, as a list of entries, is such a book
 abbrev pub bookOf : Store → Book
-bookOf s = record { limit = s .limit; faultLimit = s .faultLimit; entries = plain s }
+bookOf s = record { shape = s .shape; entries = plain s }
 
 pub plain-agrees : (s : Store) → Fair s → Agrees (bookOf s) s
 plain-agrees s r =
     record {
-      limit = refl;
-      faultLimit = refl;
+      shape = refl;
       under = λ x. keep-map (λ e. same x (e .serial)) entry (cards s) ∙ ap (map entry) (look-cards s r x);
       number = length-map (cards s) entry;
       slips = entries-slips (cards s) ∙ sym (faults-total (cards s));
     }
 
 -- the empty book of a fresh store
-abbrev pub emptyBook : ℕ → ℕ → Book
-emptyBook c f = record { limit = c; faultLimit = f; entries = [] }
+abbrev pub emptyBook : Shape → Book
+emptyBook sh = record { shape = sh; entries = [] }
 
-pub fresh-agrees : (c f : ℕ) → limitsOk c f ≡ true → Agrees (emptyBook c f) (fresh c f)
+pub fresh-agrees : (sh : Shape) → shapeOk sh ≡ true → Agrees (emptyBook sh) (fresh sh)
 unfolding fresh
-fresh-agrees c f ok = record { limit = refl; faultLimit = refl; under = λ x. rw (fresh-look c f ok x); number = refl; slips = refl }
+fresh-agrees sh ok = record { shape = refl; under = λ x. rw (fresh-look sh ok x); number = refl; slips = refl }
 
 module _ (b : Book) (s : Store) (g : Good s) (a : Agrees b s) where
   times : (y : List ℕ) (k : ℕ) → length (look s y) ≡ k → length (lookUp y (b .entries)) ≡ k
@@ -89,14 +88,13 @@ module _ (b : Book) (s : Store) (g : Good s) (a : Agrees b s) where
 
   -- the book after an accepted call agrees with the store after it
 
-  enter-agrees : (y : List ℕ) → serialOk y ≡ true → look s y ≡ [] → held s < s .limit
+  enter-agrees : (y : List ℕ) → serialOk y ≡ true → look s y ≡ [] → held s < s .shape .limit
       → Agrees (withEntries b (b .entries ++ (record { serial = y; slips = [] } ∷ []))) (entered s y)
   enter-agrees y v l f =
       let new : List Entry = record { serial = y; slips = [] } ∷ [] in
       let t = entered-total s (g .fair) y v l f in
       record {
-        limit = a .limit ∙ sym (entered-limits s y .limit);
-        faultLimit = a .faultLimit ∙ sym (entered-limits s y .faultLimit);
+        shape = a .shape ∙ sym (entered-shape s y);
         under = λ x.
             rw (keep-append (λ e. same x (e .serial)) (b .entries) new, a .under x, entered-look s (g .fair) y v l f x)
             (by-cases (same x y) (λ e. rw e (sym (map-append entry (look s x) (newCard s y ∷ [])))) (λ e. rw (e, append-nil (look s x), append-nil (map entry (look s x)))));
@@ -110,8 +108,7 @@ module _ (b : Book) (s : Store) (g : Good s) (a : Agrees b s) where
       let f : Slip = record { day = day; code = code } in
       let t = filed-total s (g .fair) y day code in
       record {
-        limit = a .limit ∙ sym (filed-limits s y day code .limit);
-        faultLimit = a .faultLimit ∙ sym (filed-limits s y day code .faultLimit);
+        shape = a .shape ∙ sym (filed-shape s y day code);
         under = λ x.
             rw (keep-update (λ (e : Entry). e .serial) (withSlip f) (λ e. refl) x y (b .entries), a .under x, filed-look s (g .fair) y day code x)
             (by-cases (same y x) (λ e. rw e (sym (noted-entry (newFault s day code) (look s x)))) (λ e. rw e));
@@ -139,8 +136,7 @@ module _ (b : Book) (s : Store) (g : Good s) (a : Agrees b s) where
   withdraw-agrees y =
       let t = withdrawn-total s (g .fair) y in
       record {
-        limit = a .limit ∙ sym (withdrawn-limits s y .limit);
-        faultLimit = a .faultLimit ∙ sym (withdrawn-limits s y .faultLimit);
+        shape = a .shape ∙ sym (withdrawn-shape s y);
         under = λ x.
             rw (keep-remove (λ (e : Entry). e .serial) x y (b .entries), a .under x, withdrawn-look s (g .fair) y x)
             (by-cases (same y x) (λ e. rw e) (λ e. rw e));
@@ -177,9 +173,9 @@ module _ (b : Book) (s : Store) (g : Good s) (a : Agrees b s) where
       enter-cases s g bytes n (λ r. Match r (bookEnter b bytes n))
       (λ v. rw v (record { number = refl; faults = refl; room = refl; agrees = a }))
       (λ v l. rw (v, times y 1 l) (record { number = refl; faults = refl; room = refl; agrees = a }))
-      (λ v l f. rw (v, times y 0 (ap length l), eq-eqb (length (b .entries)) (b .limit) (a .number ∙ f ∙ sym (a .limit)))
+      (λ v l f. rw (v, times y 0 (ap length l), eq-eqb (length (b .entries)) (b .shape .limit) (a .number ∙ f ∙ sym (ap (λ (sh : Shape). sh .limit) (a .shape))))
       (record { number = refl; faults = refl; room = refl; agrees = a }))
-      (λ v l f. rw (v, times y 0 (ap length l), ne-eqb (length (b .entries)) (b .limit) (omega (arith, a .number, a .limit)))
+      (λ v l f. rw (v, times y 0 (ap length l), ne-eqb (length (b .entries)) (b .shape .limit) (omega (arith, a .number, ap (λ (sh : Shape). sh .limit) (a .shape))))
       (record { number = refl; faults = refl; room = refl; agrees = enter-agrees y (valid-serial bytes n v) l f }))
 
   file-match : (bytes : List ℕ) (n day code : ℕ) → Match (fileStep s bytes n day code) (bookFile b bytes n day code)
@@ -190,9 +186,9 @@ module _ (b : Book) (s : Store) (g : Good s) (a : Agrees b s) where
       (λ v. rw v (record { number = refl; faults = refl; room = refl; agrees = a }))
       (λ v w. rw (v, w) (record { number = refl; faults = refl; room = refl; agrees = a }))
       (λ v w l. rw (v, w, times y 0 (ap length l)) (record { number = refl; faults = refl; room = refl; agrees = a }))
-      (λ v w l f. rw (v, w, times y 1 l, eq-eqb (slipsIn (b .entries)) (b .faultLimit) (a .slips ∙ f ∙ sym (a .faultLimit)))
+      (λ v w l f. rw (v, w, times y 1 l, eq-eqb (slipsIn (b .entries)) (b .shape .faultLimit) (a .slips ∙ f ∙ sym (ap (λ (sh : Shape). sh .faultLimit) (a .shape))))
       (record { number = refl; faults = refl; room = refl; agrees = a }))
-      (λ v w l f. rw (v, w, times y 1 l, ne-eqb (slipsIn (b .entries)) (b .faultLimit) (omega (arith, a .slips, a .faultLimit)))
+      (λ v w l f. rw (v, w, times y 1 l, ne-eqb (slipsIn (b .entries)) (b .shape .faultLimit) (omega (arith, a .slips, ap (λ (sh : Shape). sh .faultLimit) (a .shape))))
       (record { number = refl; faults = rw (history y, length-map (historyIn s y) slip); room = refl; agrees = file-agrees y day code l }))
 
   show-match : (bytes : List ℕ) (n : ℕ) (room : List ℕ) → Match (showStep s bytes n room) (bookShow b bytes n room)

@@ -15,8 +15,9 @@ use lib.ListN.{length, take, length-append}
 use Rattle.rules.proofs.Tests.{by-cases}
 use Rattle.model.specs.Lists.{same}
 use Rattle.model.specs.Serial.{validSerial, validFault}
+use Rattle.model.specs.Shape.{Shape}
 use Rattle.model.specs.Model.{Fault, Card, Store, cards, histories, faultsHeld, withFault, newFault, fresh, entered, filed, withdrawn, historyIn}
-use Rattle.model.specs.Layout.{limitsOk}
+use Rattle.model.specs.Layout.{shapeOk}
 use Rattle.model.specs.Calls.{Step}
 use Rattle.model.specs.Plain.{Slip, slip}
 use Rattle.model.specs.Runs.{Act, Act.enter, Act.file, Act.show, Act.withdraw, perform, Event, Event.opened, Event.answered, told, history, taken, gone, since}
@@ -113,14 +114,14 @@ pub record Kept (s : Store) (es : List Event) : Type 0 where
   -- faults accepted are those held and those gone with withdrawn cards
   pub conserved : since taken es 0 ≡ faultsHeld s + since gone es 0
 
-pub kept-fresh : (c f : ℕ) → limitsOk c f ≡ true → Kept (fresh c f) []
+pub kept-fresh : (sh : Shape) → shapeOk sh ≡ true → Kept (fresh sh) []
 unfolding fresh
-kept-fresh c f ok = record { good = fresh-good c f ok; tells = λ x. rw (fresh-look c f ok x); conserved = refl }
+kept-fresh sh ok = record { good = fresh-good sh ok; tells = λ x. rw (fresh-look sh ok x); conserved = refl }
 
 -- opening starts the count anew
-pub kept-open : (es : List Event) (c f : ℕ) → limitsOk c f ≡ true → Kept (fresh c f) (es ++ (opened ∷ []))
-kept-open es c f ok =
-    let k = kept-fresh c f ok in
+pub kept-open : (es : List Event) (sh : Shape) → shapeOk sh ≡ true → Kept (fresh sh) (es ++ (opened ∷ []))
+kept-open es sh ok =
+    let k = kept-fresh sh ok in
     record {
       good = k .good;
       tells = λ x. k .tells x ∙ sym (history-append x es (opened ∷ []) []);
@@ -150,7 +151,7 @@ module _ {s : Store} {es : List Event} (k : Kept s es) where
   kept-card c m = rw (card-look s (k .good .fair) c m, append-nil (c .faults)) at (k .tells (c .serial))
 
   pub kept-room : (bytes : List ℕ) (n day code : ℕ) → validSerial bytes n ≡ true → validFault day code ≡ true → length (look s (take n bytes)) ≡ 1
-      → (perform s (file bytes n day code) .answer .number ≡ 9) ↔ (since taken es 0 - since gone es 0 ≡ s .faultLimit)
+      → (perform s (file bytes n day code) .answer .number ≡ 9) ↔ (since taken es 0 - since gone es 0 ≡ s .shape .faultLimit)
   kept-room bytes n day code v w l =
       let r = file-numbers s (k .good) bytes n day code .full in
       let c = k .conserved in

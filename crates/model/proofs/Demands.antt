@@ -17,7 +17,7 @@ use borrow.Author.Tests.{eq-eqb, ne-eqb, lt-ltb, le-ltb}
 use Rattle.model.specs.Serial.{validSerial, validFault}
 use Rattle.model.specs.Model.{Card, cards, faultsHeld, fresh}
 use Rattle.model.specs.Layout.{lengthFor, encode, decode, sound}
-use Rattle.model.specs.Calls.{scratchNeed, openCall}
+use Rattle.model.specs.Calls.{scratchNeed, Terms, shapeFor, openCall}
 use Rattle.model.specs.Plain.{slip, Book, Reply, bookOpen}
 use Rattle.model.specs.Runs.{Act.file, perform, Call, Call.opening, Call.acting, outcome, wordsAfter, run, Event, Event.opened, Event.answered, eventsOf, events, history, taken, gone, since, Tell, tellOf, tells, bookCall, bookAfter, bookTells}
 use Rattle.model.proofs.Look.{look}
@@ -30,9 +30,9 @@ use Rattle.model.proofs.Outcomes.{read-back, open-cases, call-cases, op
 -- demand 3
 
 pub kept-call : (w : List ℕ) → sound w ≡ true → (es : List Event) → Kept (decode w) es → (c : Call) → Kept (decode (wordsAfter w c)) (es ++ eventsOf w c)
-kept-call w ok es k (opening c f) =
-    open-cases w c f (λ r. Kept (decode (r .words)) (es ++ cond (eqb (r .number) 0) (opened ∷ []) []))
-    (λ v. rw (append-nil es) k) (λ v n. rw (append-nil es) k) (λ v l. rw (read-back (fresh c f) (fair-fresh c f v)) (kept-open es c f v))
+kept-call w ok es k (opening t) =
+    open-cases w t (λ r. Kept (decode (r .words)) (es ++ cond (eqb (r .number) 0) (opened ∷ []) []))
+    (λ v. rw (append-nil es) k) (λ o v n. rw (append-nil es) k) (λ o v l. rw (read-back (fresh (shapeFor t)) (fair-fresh (shapeFor t) o)) (kept-open es (shapeFor t) o))
 kept-call w ok es k (acting scratch a) =
     call-cases w scratch a ok (λ r. Kept (decode (r .words)) (es ++ (answered a (r .answer .number) (r .answer .faults) ∷ [])))
     (λ h. kept-refused k a 11 0 refl)
@@ -53,7 +53,7 @@ pub record Demand3 (w : List ℕ) (es : List Event) : Type 0 where
   -- a filing that is otherwise in order is refused for room exactly when faults accepted less faults gone are the fault limit
   pub room : (scratch bytes : List ℕ) (n day code : ℕ) → scratchNeed ≤ length scratch → validSerial bytes n ≡ true → validFault day code ≡ true
       → length (look (decode w) (take n bytes)) ≡ 1
-      → (outcome w scratch (file bytes n day code) .answer .number ≡ 9) ↔ (since taken es 0 - since gone es 0 ≡ decode w .faultLimit)
+      → (outcome w scratch (file bytes n day code) .answer .number ≡ 9) ↔ (since taken es 0 - since gone es 0 ≡ decode w .shape .faultLimit)
 
 pub kept-demand3 : (w : List ℕ) → sound w ≡ true → (es : List Event) → Kept (decode w) es → Demand3 w es
 kept-demand3 w ok es k =
@@ -62,17 +62,17 @@ kept-demand3 w ok es k =
       each = kept-card k;
       conserved = k .conserved;
       room = λ scratch bytes n day code enough v u l.
-          call-cases w scratch (file bytes n day code) ok (λ r. (r .answer .number ≡ 9) ↔ (since taken es 0 - since gone es 0 ≡ decode w .faultLimit))
+          call-cases w scratch (file bytes n day code) ok (λ r. (r .answer .number ≡ 9) ↔ (since taken es 0 - since gone es 0 ≡ decode w .shape .faultLimit))
           (λ h. absurd (omega arith)) (λ h. kept-room k bytes n day code v u l);
     }
 
-pub demand3 : (w : List ℕ) (c f : ℕ) → openCall w c f .number ≡ 0 → (cs : List Call)
-    → Demand3 (run (openCall w c f .words) cs) (events (openCall w c f .words) cs)
-demand3 w c f e cs =
-    let o = opened-fresh w c f e in
-    let ok = fresh-sound c f (o .0) in
-    let k : Kept (decode (encode (fresh c f))) [] = rw (read-back (fresh c f) (fair-fresh c f (o .0))) (kept-fresh c f (o .0)) in
-    rw (o .1) (kept-demand3 (run (encode (fresh c f)) cs) (sound-run (encode (fresh c f)) ok cs) (events (encode (fresh c f)) cs) (kept-run (encode (fresh c f)) ok [] k cs))
+pub demand3 : (w : List ℕ) (t : Terms) → openCall w t .number ≡ 0 → (cs : List Call)
+    → Demand3 (run (openCall w t .words) cs) (events (openCall w t .words) cs)
+demand3 w t e cs =
+    let o = opened-fresh w t e in
+    let ok = fresh-sound (shapeFor t) (o .0) in
+    let k : Kept (decode (encode (fresh (shapeFor t)))) [] = rw (read-back (fresh (shapeFor t)) (fair-fresh (shapeFor t) (o .0))) (kept-fresh (shapeFor t) (o .0)) in
+    rw (o .1) (kept-demand3 (run (encode (fresh (shapeFor t))) cs) (sound-run (encode (fresh (shapeFor t))) ok cs) (events (encode (fresh (shapeFor t))) cs) (kept-run (encode (fresh (shapeFor t))) ok [] k cs))
 
 -- demand 2
 
@@ -87,13 +87,14 @@ pub record AsBook (t : Tell) (w : List ℕ) (r : Reply) : Type 0 where
 
 pub book-call : (w : List ℕ) → sound w ≡ true → (b : Book) → Agrees b (decode w) → (c : Call) → AsBook (tellOf w c) (wordsAfter w c) (bookCall b c)
 unfolding bookOpen
-book-call w ok b a (opening c f) =
-    let long : length w ≡ lengthFor (b .limit) (b .faultLimit) = rw (a .limit, a .faultLimit) (sound-is w ok .0 .long) in
-    open-cases w c f (λ r. AsBook (record { number = r .number; faults = 0; room = [] }) (r .words) (bookOpen b c f))
+book-call w ok b a (opening t) =
+    let sh = shapeFor t in
+    let long : length w ≡ lengthFor (b .shape) = rw (a .shape) (sound-is w ok .0 .long) in
+    open-cases w t (λ r. AsBook (record { number = r .number; faults = 0; room = [] }) (r .words) (bookOpen b t))
     (λ v. rw v (record { tell = refl; agrees = a }))
-    (λ v n. rw (v, ne-eqb (lengthFor (b .limit) (b .faultLimit)) (lengthFor c f) (λ e. n (long ∙ e))) (record { tell = refl; agrees = a }))
-    (λ v l. rw (v, eq-eqb (lengthFor (b .limit) (b .faultLimit)) (lengthFor c f) (sym long ∙ l))
-    (record { tell = refl; agrees = rw (read-back (fresh c f) (fair-fresh c f v)) (fresh-agrees c f v) }))
+    (λ o v n. rw (v, ne-eqb (lengthFor (b .shape)) (lengthFor sh) (λ e. n (long ∙ e))) (record { tell = refl; agrees = a }))
+    (λ o v l. rw (v, eq-eqb (lengthFor (b .shape)) (lengthFor sh) (sym long ∙ l))
+    (record { tell = refl; agrees = rw (read-back (fresh (shapeFor t)) (fair-fresh (shapeFor t) o)) (fresh-agrees (shapeFor t) o) }))
 book-call w ok b a (acting scratch act) =
     call-cases w scratch act ok
     (λ r. AsBook (record { number = r .answer .number; faults = r .answer .faults; room = r .room }) (r .words) (bookCall b (acting scratch act)))
@@ -122,8 +123,8 @@ pub demand2-from : (w : List ℕ) → sound w ≡ true → (cs : List Call) → 
 demand2-from w ok cs = book-run w ok (bookOf (decode w)) (plain-agrees (decode w) (sound-good w ok .0 .fair)) cs
 
 -- from an accepted Open on, the list being empty
-pub demand2 : (w : List ℕ) (c f : ℕ) → openCall w c f .number ≡ 0 → (cs : List Call) → Demand2 (openCall w c f .words) (emptyBook c f) cs
-demand2 w c f e cs =
-    let o = opened-fresh w c f e in
-    let a : Agrees (emptyBook c f) (decode (encode (fresh c f))) = rw (read-back (fresh c f) (fair-fresh c f (o .0))) (fresh-agrees c f (o .0)) in
-    rw (o .1) (book-run (encode (fresh c f)) (fresh-sound c f (o .0)) (emptyBook c f) a cs)
+pub demand2 : (w : List ℕ) (t : Terms) → openCall w t .number ≡ 0 → (cs : List Call) → Demand2 (openCall w t .words) (emptyBook (shapeFor t)) cs
+demand2 w t e cs =
+    let o = opened-fresh w t e in
+    let a : Agrees (emptyBook (shapeFor t)) (decode (encode (fresh (shapeFor t)))) = rw (read-back (fresh (shapeFor t)) (fair-fresh (shapeFor t) (o .0))) (fresh-agrees (shapeFor t) (o .0)) in
+    rw (o .1) (book-run (encode (fresh (shapeFor t))) (fresh-sound (shapeFor t) (o .0)) (emptyBook (shapeFor t)) a cs)

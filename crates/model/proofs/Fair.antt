@@ -1,7 +1,7 @@
 -- A fair store and a good one, as facts with names; `fair` decides the one (`fair-is`, `is-fair`) and `loadOk` what a good store has more (`load-is`, `is-load`). What is
 -- counted of a store is a sum over its cards: `card-cells`, `card-count`, `fault-cells`, `fault-count`.
 use Prim.Native.Nat.{ℕ, _+_, _*_, _≤_, _<_}
-use mathlib.Core.Path.{_≡_, refl, sym, _∙_}
+use mathlib.Core.Path.{_≡_, refl, sym, ap, _∙_}
 use mathlib.Core.Logic.{_⊎_, ⊎-elim}
 use mathlib.Core.List.{List, [], _∷_, map}
 use mathlib.Core.Bool.{true, _||_}
@@ -9,14 +9,16 @@ use native.Mathlib.Omega.{arith}
 use lib.Dec.{leb, ltb, eqb}
 use lib.ListN.{length, length-append, length-map, List·getD-eq-default}
 use borrow.Author.Tests.{eq-eqb, eqb-true, eqb-false, ltb-true, ltb-false, leb-true, le-leb}
-use Rattle.rules.specs.Table.{least, upper, lower, stateOk}
+use Rattle.rules.specs.Table.{least, top, stateOk}
 use Rattle.rules.proofs.Tests.{by-cases, both, all-of, either}
-use Rattle.rules.proofs.States.{state-of, size-low}
-use Rattle.model.specs.Lists.{between, all, same, keep, join, total}
+use Rattle.rules.proofs.States.{state-of, state-wider, size-low}
+use Rattle.model.specs.Lists.{all, same, keep, join, total}
+use Rattle.model.specs.Shape.{entries, topOf}
 use Rattle.model.specs.Model.{Fault, Card, Store, cards, histories, held, faultsHeld, size, bucket, is, faultCellsOf}
-use Rattle.model.specs.Layout.{Cell, atsOf, cardWidth, faultWidth, mostCards, mostFaults, cardCell, faultCell, freeCell, cardChains, faultChains, eachOnce, limitsOk, goodCard, goodBuckets, cellsOk, serialsOk, loadOk, fair}
-use Rattle.model.proofs.Lists.{between-is, same-is, all-from, from-all}
+use Rattle.model.specs.Layout.{Cell, atsOf, cardWidth, faultWidth, cardCell, faultCell, freeCell, cardChains, faultChains, eachOnce, shapeOk, goodCard, goodBuckets, cellsOk, serialsOk, loadOk, fair}
+use Rattle.model.proofs.Lists.{same-is, all-from, from-all}
 use Rattle.model.proofs.Sums.{bit, count, total-append, total-map, total-flat, total-maps, length-total, distinct-total, total-distinct}
+use Rattle.model.proofs.Shapes.{top-most, shaped}
 use Rattle.model.proofs.Each.{many, Each, each-is, is-each, each-moved}
 
 -- what is counted of a card: itself, its faults, whether it stands in a cell, its faults in a cell, whether it has a serial
@@ -37,47 +39,32 @@ named y c = bit (is y c)
 
 -- all that holds in the middle of a call too: everything but the load bounds
 pub record Fair (s : Store) : Type 0 where
-  pub limits : limitsOk (s .limit) (s .faultLimit) ≡ true
-  pub state : stateOk (s .maxp) (s .p) ≡ true
+  pub shape : shapeOk (s .shape) ≡ true
+  pub state : stateOk (topOf (s .shape)) (s .maxp) (s .p) ≡ true
   pub number : length (s .buckets) ≡ size s
-  pub cells : Each (s .limit) (join (cardChains s))
-  pub faultCells : Each (s .faultLimit) (join (faultChains s))
+  pub cells : Each (s .shape .limit) (join (cardChains s))
+  pub faultCells : Each (s .shape .faultLimit) (join (faultChains s))
   pub addressed : (b : ℕ) → all (goodCard (s .maxp) (s .p) b) (bucket s b) ≡ true
   pub different : (y : List ℕ) → total (named y) (cards s) ≤ 1
 
 pub record Good (s : Store) : Type 0 where
   pub fair : Fair s
-  pub high : held s ≤ upper * size s
-  pub low : least < size s → lower * size s ≤ held s
-
--- the limits as orders of numbers
-pub record Limits (c f : ℕ) : Type 0 where
-  pub some : 1 ≤ c
-  pub most : c ≤ mostCards
-  pub someFaults : 1 ≤ f
-  pub mostFaults : f ≤ mostFaults
-
-pub limits-of : (c f : ℕ) → limitsOk c f ≡ true → Limits c f
-unfolding limitsOk
-limits-of c f e =
-    let h = both (between 1 mostCards c) (between 1 mostFaults f) e in
-    let a = between-is 1 mostCards c .0 (h .0) in
-    let b = between-is 1 mostFaults f .0 (h .1) in
-    record { some = a .0; most = a .1; someFaults = b .0; mostFaults = b .1 }
+  pub high : size s < topOf (s .shape) → held s ≤ s .shape .upper * size s
+  pub low : least < size s → s .shape .lower * size s ≤ held s
 
 -- the cells of a part as sums over the cards
 
 pub card-cells : (s : Store) (x : ℕ) → many x (join (cardChains s)) ≡ count x (s .free) + total (inCell x) (cards s)
 unfolding freeCell cardCell
 card-cells s x =
-    total-append (λ c. bit (eqb x (c .at))) (map (freeCell cardWidth) (s .free)) (join (map (map cardCell) (s .buckets)))
-    ∙ omega (arith, total-map (λ (c : Cell). bit (eqb x (c .at))) (freeCell cardWidth) (s .free), total-maps (λ (c : Cell). bit (eqb x (c .at))) cardCell (s .buckets))
+    total-append (λ c. bit (eqb x (c .at))) (map (freeCell (cardWidth (s .shape))) (s .free)) (join (map (map cardCell) (s .buckets)))
+    ∙ omega (arith, total-map (λ (c : Cell). bit (eqb x (c .at))) (freeCell (cardWidth (s .shape))) (s .free), total-maps (λ (c : Cell). bit (eqb x (c .at))) cardCell (s .buckets))
 
 pub card-count : (s : Store) → length (join (cardChains s)) ≡ length (s .free) + held s
 card-count s =
     length-total (join (cardChains s))
-    ∙ total-append (λ c. 1) (map (freeCell cardWidth) (s .free)) (join (map (map cardCell) (s .buckets)))
-    ∙ omega (arith, total-map (λ (c : Cell). 1) (freeCell cardWidth) (s .free), total-maps (λ (c : Cell). 1) cardCell (s .buckets), length-total (s .free), length-total (cards s))
+    ∙ total-append (λ c. 1) (map (freeCell (cardWidth (s .shape))) (s .free)) (join (map (map cardCell) (s .buckets)))
+    ∙ omega (arith, total-map (λ (c : Cell). 1) (freeCell (cardWidth (s .shape))) (s .free), total-maps (λ (c : Cell). 1) cardCell (s .buckets), length-total (s .free), length-total (cards s))
 
 pub fault-cells : (s : Store) (x : ℕ) → many x (join (faultChains s)) ≡ count x (s .freeFaults) + total (faultIn x) (cards s)
 unfolding freeCell faultCell
@@ -140,19 +127,19 @@ serials-named y cs = total-map (λ (z : List ℕ). bit (same y z)) (λ (c : Card
 pub fair-is : (s : Store) → fair s ≡ true → Fair s
 unfolding fair cellsOk goodBuckets serialsOk
 fair-is s t =
-    let a = both (limitsOk (s .limit) (s .faultLimit)) _ t in
-    let b = both (stateOk (s .maxp) (s .p)) _ (a .1) in
+    let a = both (shapeOk (s .shape)) _ t in
+    let b = both (stateOk (topOf (s .shape)) (s .maxp) (s .p)) _ (a .1) in
     let c = both (eqb (length (s .buckets)) (size s)) _ (b .1) in
     let d = both (cellsOk s) _ (c .1) in
-    let e = both (eachOnce (s .limit) (atsOf (join (cardChains s)))) _ (d .0) in
+    let e = both (eachOnce (s .shape .limit) (atsOf (join (cardChains s)))) _ (d .0) in
     let f = both (goodBuckets s) (serialsOk s) (d .1) in
     let n = eqb-true (length (s .buckets)) (size s) (c .0) in
     record {
-      limits = a .0;
+      shape = a .0;
       state = b .0;
       number = n;
-      cells = each-is (s .limit) (join (cardChains s)) (e .0);
-      faultCells = each-is (s .faultLimit) (join (faultChains s)) (e .1);
+      cells = each-is (s .shape .limit) (join (cardChains s)) (e .0);
+      faultCells = each-is (s .shape .faultLimit) (join (faultChains s)) (e .1);
       addressed = home n (f .0);
       different = λ y. omega (arith, serials-named y (cards s), distinct-total same same-is (map (λ (c : Card). c .serial) (cards s)) (f .1) y);
     }
@@ -167,29 +154,50 @@ fair-is s t =
 pub is-fair : (s : Store) → Fair s → fair s ≡ true
 unfolding fair cellsOk goodBuckets serialsOk
 is-fair s r =
-    all-of (r .limits)
+    all-of (r .shape)
     (all-of (r .state)
     (all-of (eq-eqb (length (s .buckets)) (size s) (r .number))
-    (all-of (all-of (is-each (s .limit) (join (cardChains s)) (r .cells)) (is-each (s .faultLimit) (join (faultChains s)) (r .faultCells)))
+    (all-of (all-of (is-each (s .shape .limit) (join (cardChains s)) (r .cells)) (is-each (s .shape .faultLimit) (join (faultChains s)) (r .faultCells)))
     (all-of (from-all (λ b. all (goodCard (s .maxp) (s .p) b) (bucket s b)) 0 (size s) (λ b h k. r .addressed b))
     (total-distinct same same-is (map (λ (c : Card). c .serial) (cards s)) (λ y. omega (arith, serials-named y (cards s), r .different y)))))))
 
+-- the state is one that the address rule knows
+pub host-state : (s : Store) → Fair s → stateOk top (s .maxp) (s .p) ≡ true
+host-state s r = state-wider (topOf (s .shape)) top (s .maxp) (s .p) (top-most (s .shape)) (r .state)
+
 -- the least number of buckets
 pub size-least : (s : Store) → Fair s → least ≤ size s
-size-least s r = omega (arith, size-low (state-of (s .maxp) (s .p) (r .state) .size))
+size-least s r = omega (arith, size-low (state-of (topOf (s .shape)) (s .maxp) (s .p) (r .state) .size))
 
-pub load-is : (s : Store) → loadOk s ≡ true → (held s ≤ upper * size s) × (least < size s → lower * size s ≤ held s)
+pub load-is : (s : Store) → Fair s → loadOk s ≡ true → (size s < topOf (s .shape) → held s ≤ s .shape .upper * size s) × (least < size s → s .shape .lower * size s ≤ held s)
 unfolding loadOk
-load-is s t =
-    let h = both (leb (held s) (upper * size s)) (eqb (size s) least || leb (lower * size s) (held s)) t in (
-      leb-true (held s) (upper * size s) (h .0),
-      λ l. ⊎-elim (λ e. absurd (omega (arith, eqb-true (size s) least e))) (λ e. leb-true (lower * size s) (held s) e) (either (eqb (size s) least) (leb (lower * size s) (held s)) (h .1)),
+load-is s r t =
+    let t₀ = eqb (size s) (topOf (s .shape)) in
+    let u = leb (held s) (s .shape .upper * size s) in
+    let l₀ = eqb (size s) least in
+    let l = leb (s .shape .lower * size s) (held s) in
+    let h = both (t₀ || u) (l₀ || l) t in (
+      λ m. ⊎-elim (λ e. absurd (omega (arith, eqb-true (size s) (topOf (s .shape)) e))) (λ e. leb-true (held s) (s .shape .upper * size s) e) (either t₀ u (h .0)),
+      λ m. ⊎-elim (λ e. absurd (omega (arith, eqb-true (size s) least e))) (λ e. leb-true (s .shape .lower * size s) (held s) e) (either l₀ l (h .1)),
     )
 
 pub is-load : (s : Store) → Good s → loadOk s ≡ true
 unfolding loadOk
 is-load s g =
-    all-of (le-leb (held s) (upper * size s) (g .high))
+    all-of {a = eqb (size s) (topOf (s .shape)) || leb (held s) (s .shape .upper * size s)} {b = eqb (size s) least || leb (s .shape .lower * size s) (held s)}
+    (by-cases (eqb (size s) (topOf (s .shape)))
+    (λ e. rw e)
+    (λ e. rw e (le-leb (held s) (s .shape .upper * size s) (g .high (omega (arith, state-of (topOf (s .shape)) (s .maxp) (s .p) (g .fair .state) .room, eqb-false (size s) (topOf (s .shape)) e))))))
     (by-cases (eqb (size s) least)
     (λ e. rw e)
-    (λ e. rw e (le-leb (lower * size s) (held s) (g .low (omega (arith, size-least s (g .fair), eqb-false (size s) least e))))))
+    (λ e. rw e (le-leb (s .shape .lower * size s) (held s) (g .low (omega (arith, size-least s (g .fair), eqb-false (size s) least e))))))
+
+-- in format 1 no bucket has more than four cards a bucket, the table with most buckets too: the card limit is four times those
+pub high-four : (s : Store) → Good s → held s ≤ 4 * size s
+unfolding entries
+high-four s g =
+    let k = shaped (s .shape) (g .fair .shape) in
+    by-cases (ltb (size s) (topOf (s .shape)))
+    (λ e. let h : held s ≤ s .shape .upper * size s = g .high (ltb-true (size s) (topOf (s .shape)) e) in
+    let u : s .shape .upper * size s ≡ 4 * size s = ap (λ (n : ℕ). n * size s) (k .known .1) in omega arith)
+    (λ e. omega (arith, ltb-false (size s) (topOf (s .shape)) e, card-count s, g .fair .cells .count, k .most))

@@ -23,16 +23,17 @@ use Rattle.model.proofs.Places.{cellAt-end}
 use Rattle.model.proofs.Chains.{Stands}
 use Rattle.model.proofs.Part.{cellIn}
 use Rattle.model.proofs.Writes.{Apart, cell-here}
+use Rattle.model.proofs.Shapes.{in-card}
 use Rattle.model.proofs.Fair.{one, filings, Fair, fault-count, faults-total}
 use Rattle.model.proofs.Rep.{Rep}
-use Rattle.model.proofs.Decode.{limit-at, cards-at}
+use Rattle.model.proofs.Decode.{cards-at}
 use Rattle.model.proofs.Readings.{faults-held-at, free-faults-at, last-fault-at, fault-count-at}
 use Rattle.model.proofs.Look.{address-in}
 use Rattle.model.proofs.Steps.{filed-total, filed-fair}
 use Rattle.model.proofs.Cut.{Present}
 use Rattle.model.proofs.Whole.{Whole, rep-whole, whole-rep, each-apart, front-write, fault-fill, fault-chain, fault-behind, card-word, faults-fit, fronted, segments-kept, historyOf, cards-joined, history-get, history-set, history-below, taken-in, taken-none, taken-apart, taken-rest, taken-next, ends, last-none, last-at}
 
-module _ (w : List ℕ) (s : Store) (r : Rep w s) (y : List ℕ) (day code : ℕ) (valid : validFault day code ≡ true) (p : Present y (chainFor s y)) (room : faultsHeld s < s .faultLimit) where
+module _ (w : List ℕ) (s : Store) (r : Rep w s) (y : List ℕ) (day code : ℕ) (valid : validFault day code ≡ true) (p : Present y (chainFor s y)) (room : faultsHeld s < s .shape .faultLimit) where
   abbrev a : ℕ
   a = addressIn s y
 
@@ -85,43 +86,43 @@ module _ (w : List ℕ) (s : Store) (r : Rep w s) (y : List ℕ) (day code : ℕ
       (ap (set records (length left)) (sym e) ∙ history-set (cards s) left card right cards-is (historyOf (withFault fault card))
       ∙ sym (map-append historyOf left (withFault fault card ∷ right)) ∙ ap (map historyOf) (sym cards-filed))
 
-  faults-apart : (ch : List Cell) → historyOf (withFault fault card) ≡ ch → Apart (s .faultLimit) (join (map (freeCell faultWidth) later ∷ set records (length left) ch))
+  faults-apart : (ch : List Cell) → historyOf (withFault fault card) ≡ ch → Apart (s .shape .faultLimit) (join (map (freeCell faultWidth) later ∷ set records (length left) ch))
   unfolding filed
-  faults-apart ch e = subst (λ (l : List (List Cell)). Apart (s .faultLimit) (join l)) (sym (faults-filed ch e)) (each-apart (fair .faultCells))
+  faults-apart ch e = subst (λ (l : List (List Cell)). Apart (s .shape .faultLimit) (join l)) (sym (faults-filed ch e)) (each-apart (fair .faultCells))
 
-  new-in : (1 ≤ new) × (new ≤ s .faultLimit)
-  new-in = taken-in w (faultsAt (s .limit)) faultWidth (s .faultLimit) (s .freeFaults) records (lit< tt) some (r .fair .faultCells) (r .faults)
+  new-in : (1 ≤ new) × (new ≤ s .shape .faultLimit)
+  new-in = taken-in w (faultsAt (s .shape)) faultWidth (s .shape .faultLimit) (s .freeFaults) records (lit< tt) some (r .fair .faultCells) (r .faults)
 
   new-none : many new (join (map (freeCell faultWidth) later ∷ records)) ≡ 0
-  new-none = taken-none w (faultsAt (s .limit)) faultWidth (s .faultLimit) (s .freeFaults) records (lit< tt) some (r .fair .faultCells) (r .faults)
+  new-none = taken-none w (faultsAt (s .shape)) faultWidth (s .shape .faultLimit) (s .freeFaults) records (lit< tt) some (r .fair .faultCells) (r .faults)
 
   -- the cell is taken and filled
   taken : List ℕ
   taken = set w 8 (first later)
 
   filled : List ℕ
-  filled = sets taken (faultAt (s .limit) new 0) (0 ∷ day ∷ code ∷ [])
+  filled = sets taken (faultAt (s .shape) new 0) (0 ∷ day ∷ code ∷ [])
 
   abbrev fronts : ℕ → List ℕ
-  fronts k = fronted (s .limit) (s .faultLimit) (s .maxp) (s .p) (held s) k (first (s .free)) (first later) (directory s) (segments s)
+  fronts k = fronted (s .shape) (s .maxp) (s .p) (held s) k (first (s .free)) (first later) (directory s) (segments s)
 
-  taken-whole : Whole taken (s .limit) (s .faultLimit) (fronts (faultsHeld s)) (cardChains s) (map (freeCell faultWidth) later ∷ records)
+  taken-whole : Whole taken (s .shape) (fronts (faultsHeld s)) (cardChains s) (map (freeCell faultWidth) later ∷ records)
   unfolding taken front header cardsAt
   taken-whole =
-      front-write w (s .limit) (s .faultLimit) (front s) (cardChains s) (map (freeCell faultWidth) later ∷ records)
-      (fault-chain w (s .limit) (s .faultLimit) (front s) (cardChains s) (faultChains s) (rep-whole r) 0 (map (freeCell faultWidth) later) (omega arith)
-      (taken-apart w (faultsAt (s .limit)) faultWidth (s .faultLimit) (s .freeFaults) records (lit< tt) some (r .fair .faultCells) (r .faults))
-      (taken-rest w (faultsAt (s .limit)) faultWidth (s .faultLimit) (s .freeFaults) records (lit< tt) some (r .fair .faultCells) (r .faults))) 8 (first later) (lit< tt)
+      front-write w (s .shape) (front s) (cardChains s) (map (freeCell faultWidth) later ∷ records)
+      (fault-chain w (s .shape) (front s) (cardChains s) (faultChains s) (rep-whole r) 0 (map (freeCell faultWidth) later) (omega arith)
+      (taken-apart w (faultsAt (s .shape)) faultWidth (s .shape .faultLimit) (s .freeFaults) records (lit< tt) some (r .fair .faultCells) (r .faults))
+      (taken-rest w (faultsAt (s .shape)) faultWidth (s .shape .faultLimit) (s .freeFaults) records (lit< tt) some (r .fair .faultCells) (r .faults))) 8 (first later) (omega arith)
 
-  filled-whole : Whole filled (s .limit) (s .faultLimit) (fronts (faultsHeld s)) (cardChains s) (map (freeCell faultWidth) later ∷ records)
+  filled-whole : Whole filled (s .shape) (fronts (faultsHeld s)) (cardChains s) (map (freeCell faultWidth) later ∷ records)
   unfolding filled
-  filled-whole = fault-fill taken (s .limit) (s .faultLimit) _ _ _ taken-whole new (0 ∷ day ∷ code ∷ []) (new-in .0) (new-in .1) refl new-none
+  filled-whole = fault-fill taken (s .shape) _ _ _ taken-whole new (0 ∷ day ∷ code ∷ []) (new-in .0) (new-in .1) refl new-none
 
-  new-stands : Stands (cellIn filled (faultsAt (s .limit)) faultWidth) faultWidth (record { at = new; words = 0 ∷ faultCell fault .words })
+  new-stands : Stands (cellIn filled (faultsAt (s .shape)) faultWidth) faultWidth (record { at = new; words = 0 ∷ faultCell fault .words })
   unfolding filled faultCell
   new-stands k l =
-      cell-here taken (faultsAt (s .limit)) faultWidth new k (0 ∷ day ∷ code ∷ [])
-      (omega (arith, faults-fit taken (s .limit) (s .faultLimit) _ _ _ taken-whole, cellAt-end (faultsAt (s .limit)) faultWidth (s .faultLimit) new (new-in .0) (new-in .1))) l
+      cell-here taken (faultsAt (s .shape)) faultWidth new k (0 ∷ day ∷ code ∷ [])
+      (omega (arith, faults-fit taken (s .shape) _ _ _ taken-whole, cellAt-end (faultsAt (s .shape)) faultWidth (s .shape .faultLimit) new (new-in .0) (new-in .1))) l
 
   -- the card's chain with another cell in the card's place
 
@@ -136,7 +137,7 @@ module _ (w : List ℕ) (s : Store) (r : Rep w s) (y : List ℕ) (day code : ℕ
   chains-filed : chains (cardCell (withFault fault card)) ≡ cardChains (filed s y day code)
   unfolding filed
   chains-filed =
-      ap (λ (l : List (List Cell)). map (freeCell cardWidth) (s .free) ∷ l)
+      ap (λ (l : List (List Cell)). map (freeCell (cardWidth (s .shape))) (s .free) ∷ l)
       (ap (set (map (map cardCell) (s .buckets)) a)
       (append-snoc (map cardCell prior) (cardCell (withFault fault card)) (map cardCell (p .after)) ∙ sym (map-append cardCell prior (withFault fault card ∷ p .after)) ∙ ap (map cardCell) (sym (p .noted-it fault)))
       ∙ sym (map-set (map cardCell) (s .buckets) a _))
@@ -144,12 +145,12 @@ module _ (w : List ℕ) (s : Store) (r : Rep w s) (y : List ℕ) (day code : ℕ
   below-chains : suc a < length (cardChains s)
   below-chains = omega (arith, below, length-map (s .buckets) (map cardCell))
 
-  reword : (u fr : List ℕ) (fs : List (List Cell)) (k : Cell) (j v : ℕ) → suc j < cardWidth → j < length (k .words)
-      → Whole u (s .limit) (s .faultLimit) fr (chains k) fs
-      → Whole (set u (cardAt (k .at) (suc j)) v) (s .limit) (s .faultLimit) fr (chains (record { at = k .at; words = set (k .words) j v })) fs
+  reword : (u fr : List ℕ) (fs : List (List Cell)) (k : Cell) (j v : ℕ) → suc j < (cardWidth (s .shape)) → j < length (k .words)
+      → Whole u (s .shape) fr (chains k) fs
+      → Whole (set u (cardAt (s .shape) (k .at) (suc j)) v) (s .shape) fr (chains (record { at = k .at; words = set (k .words) j v })) fs
   reword u fr fs k j v l b r =
-      subst (λ (cs : List (List Cell)). Whole (set u (cardAt (k .at) (suc j)) v) (s .limit) (s .faultLimit) fr cs fs) (set-set (cardChains s) (suc a) _ _)
-      (card-word u (s .limit) (s .faultLimit) fr (chains k) fs r (suc a) (map cardCell prior) k (map cardCell (p .after)) (omega (arith, below-chains, length-set (cardChains s) (suc a) (map cardCell prior ++ (k ∷ []) ++ map cardCell (p .after))))
+      subst (λ (cs : List (List Cell)). Whole (set u (cardAt (s .shape) (k .at) (suc j)) v) (s .shape) fr cs fs) (set-set (cardChains s) (suc a) _ _)
+      (card-word u (s .shape) fr (chains k) fs r (suc a) (map cardCell prior) k (map cardCell (p .after)) (omega (arith, below-chains, length-set (cardChains s) (suc a) (map cardCell prior ++ (k ∷ []) ++ map cardCell (p .after))))
       (getD-set-same (cardChains s) (suc a) _ [] below-chains) j v l b)
 
   -- the end of the history leads to the cell
@@ -167,20 +168,20 @@ module _ (w : List ℕ) (s : Store) (r : Rep w s) (y : List ℕ) (day code : ℕ
   fs-filed = map-append (λ (f : Fault). f .at) (card .faults) (fault ∷ [])
 
   abbrev Linked : ℕ → Type 0
-  Linked q = Whole (set filled q new) (s .limit) (s .faultLimit) (fronts (faultsHeld s)) (chains (cellWith (first (fs ++ (new ∷ []))) (last fs) (length fs))) (faultChains (filed s y day code))
+  Linked q = Whole (set filled q new) (s .shape) (fronts (faultsHeld s)) (chains (cellWith (first (fs ++ (new ∷ []))) (last fs) (length fs))) (faultChains (filed s y day code))
 
-  linked-first : card .faults ≡ [] → Linked (cardAt (card .at) 6)
+  linked-first : card .faults ≡ [] → Linked (cardAt (s .shape) (card .at) 6)
   unfolding cardCell faultCell
   linked-first e =
       let ch : historyOf (withFault fault card) ≡ faultCell fault ∷ [] = ap (λ (l : List Fault). map faultCell (l ++ (fault ∷ []))) e in
       let head : new ≡ first (fs ++ (new ∷ [])) = ap (λ (l : List Fault). first (faultCellsOf l ++ (new ∷ []))) (sym e) in
-      subst (λ (i : ℕ). Whole (set filled (cardAt (card .at) 6) new) (s .limit) (s .faultLimit) (fronts (faultsHeld s)) (chains (cellWith i (last fs) (length fs))) (faultChains (filed s y day code))) head
-      (reword filled (fronts (faultsHeld s)) (faultChains (filed s y day code)) (cardCell card) 5 new (lit< tt) (lit< tt)
-      (subst (λ (cs : List (List Cell)). Whole filled (s .limit) (s .faultLimit) (fronts (faultsHeld s)) cs (faultChains (filed s y day code))) (sym chains-is)
-      (subst (λ (l : List (List Cell)). Whole filled (s .limit) (s .faultLimit) (fronts (faultsHeld s)) (cardChains s) l) (faults-filed (faultCell fault ∷ []) ch)
-      (fault-chain filled (s .limit) (s .faultLimit) _ _ _ filled-whole (suc (length left)) (faultCell fault ∷ []) (omega (arith, history-below (cards s) left card right cards-is)) (faults-apart (faultCell fault ∷ []) ch) (new-stands, tt)))))
+      subst (λ (i : ℕ). Whole (set filled (cardAt (s .shape) (card .at) 6) new) (s .shape) (fronts (faultsHeld s)) (chains (cellWith i (last fs) (length fs))) (faultChains (filed s y day code))) head
+      (reword filled (fronts (faultsHeld s)) (faultChains (filed s y day code)) (cardCell card) 5 new (in-card (s .shape) (lit< tt)) (lit< tt)
+      (subst (λ (cs : List (List Cell)). Whole filled (s .shape) (fronts (faultsHeld s)) cs (faultChains (filed s y day code))) (sym chains-is)
+      (subst (λ (l : List (List Cell)). Whole filled (s .shape) (fronts (faultsHeld s)) (cardChains s) l) (faults-filed (faultCell fault ∷ []) ch)
+      (fault-chain filled (s .shape) _ _ _ filled-whole (suc (length left)) (faultCell fault ∷ []) (omega (arith, history-below (cards s) left card right cards-is)) (faults-apart (faultCell fault ∷ []) ch) (new-stands, tt)))))
 
-  linked-behind : (xs : List Fault) (z : Fault) → card .faults ≡ xs ++ (z ∷ []) → (1 ≤ z .at) × Linked (faultAt (s .limit) (z .at) 0)
+  linked-behind : (xs : List Fault) (z : Fault) → card .faults ≡ xs ++ (z ∷ []) → (1 ≤ z .at) × Linked (faultAt (s .shape) (z .at) 0)
   unfolding cardCell faultCell
   linked-behind xs z e =
       let gs = map (freeCell faultWidth) later ∷ records in
@@ -188,12 +189,12 @@ module _ (w : List ℕ) (s : Store) (r : Rep w s) (y : List ℕ) (day code : ℕ
       let ch : historyOf (withFault fault card) ≡ map faultCell xs ++ (faultCell z ∷ []) ++ (faultCell fault ∷ []) =
       map-append faultCell (card .faults) (fault ∷ []) ∙ ap (λ (l : List Cell). l ++ (faultCell fault ∷ [])) old in
       let head : first fs ≡ first (fs ++ (new ∷ [])) = ap (λ (l : List Fault). first (faultCellsOf l)) e ∙ keeps xs ∙ ap (λ (l : List Fault). first (faultCellsOf l ++ (new ∷ []))) (sym e) in
-      let q = fault-behind filled (s .limit) (s .faultLimit) _ _ gs filled-whole (suc (length left)) (map faultCell xs) (faultCell z) (faultCell fault) (new-in .0)
+      let q = fault-behind filled (s .shape) _ _ gs filled-whole (suc (length left)) (map faultCell xs) (faultCell z) (faultCell fault) (new-in .0)
       (omega (arith, history-below (cards s) left card right cards-is)) (history-get (cards s) left card right cards-is ∙ old) new-none new-stands (faults-apart _ ch) in (
         q .0,
-        subst (λ (cs : List (List Cell)). Whole (set filled (faultAt (s .limit) (z .at) 0) new) (s .limit) (s .faultLimit) (fronts (faultsHeld s)) cs (faultChains (filed s y day code)))
+        subst (λ (cs : List (List Cell)). Whole (set filled (faultAt (s .shape) (z .at) 0) new) (s .shape) (fronts (faultsHeld s)) cs (faultChains (filed s y day code)))
             (sym chains-is ∙ ap (λ (i : ℕ). chains (cellWith i (last fs) (length fs))) head)
-            (subst (λ (l : List (List Cell)). Whole (set filled (faultAt (s .limit) (z .at) 0) new) (s .limit) (s .faultLimit) (fronts (faultsHeld s)) (cardChains s) l) (faults-filed _ ch) (q .1)),
+            (subst (λ (l : List (List Cell)). Whole (set filled (faultAt (s .shape) (z .at) 0) new) (s .shape) (fronts (faultsHeld s)) (cardChains s) l) (faults-filed _ ch) (q .1)),
       )
     where
       keeps : (l : List Fault) → first (faultCellsOf (l ++ (z ∷ []))) ≡ first (faultCellsOf (l ++ (z ∷ [])) ++ (new ∷ []))
@@ -201,7 +202,7 @@ module _ (w : List ℕ) (s : Store) (r : Rep w s) (y : List ℕ) (day code : ℕ
       keeps (c ∷ cs) = refl
 
   linkFor : ℕ → ℕ
-  linkFor end = cond (eqb end 0) (cardAt (card .at) 6) (faultAt (s .limit) end 0)
+  linkFor end = cond (eqb end 0) (cardAt (s .shape) (card .at) 6) (faultAt (s .shape) end 0)
 
   linked : Linked (linkFor (last fs))
   unfolding linkFor
@@ -225,17 +226,17 @@ module _ (w : List ℕ) (s : Store) (r : Rep w s) (y : List ℕ) (day code : ℕ
       λ t. cellWith (i t) (j t) (n t)
 
   ended : List ℕ
-  ended = set (set filled (linkFor (last fs)) new) (cardAt (card .at) 7) new
+  ended = set (set filled (linkFor (last fs)) new) (cardAt (s .shape) (card .at) 7) new
 
   counted : List ℕ
-  counted = set ended (cardAt (card .at) 8) (length fs + 1)
+  counted = set ended (cardAt (s .shape) (card .at) 8) (length fs + 1)
 
-  counted-whole : Whole counted (s .limit) (s .faultLimit) (fronts (faultsHeld s)) (cardChains (filed s y day code)) (faultChains (filed s y day code))
+  counted-whole : Whole counted (s .shape) (fronts (faultsHeld s)) (cardChains (filed s y day code)) (faultChains (filed s y day code))
   unfolding ended counted
   counted-whole =
-      subst (λ (cs : List (List Cell)). Whole counted (s .limit) (s .faultLimit) (fronts (faultsHeld s)) cs (faultChains (filed s y day code))) (ap chains card-filed ∙ chains-filed)
-      (reword ended (fronts (faultsHeld s)) _ (cellWith (first (fs ++ (new ∷ []))) new (length fs)) 7 (length fs + 1) (lit< tt) (lit< tt)
-      (reword (set filled (linkFor (last fs)) new) (fronts (faultsHeld s)) _ (cellWith (first (fs ++ (new ∷ []))) (last fs) (length fs)) 6 new (lit< tt) (lit< tt) linked))
+      subst (λ (cs : List (List Cell)). Whole counted (s .shape) (fronts (faultsHeld s)) cs (faultChains (filed s y day code))) (ap chains card-filed ∙ chains-filed)
+      (reword ended (fronts (faultsHeld s)) _ (cellWith (first (fs ++ (new ∷ []))) new (length fs)) 7 (length fs + 1) (in-card (s .shape) (lit< tt)) (lit< tt)
+      (reword (set filled (linkFor (last fs)) new) (fronts (faultsHeld s)) _ (cellWith (first (fs ++ (new ∷ []))) (last fs) (length fs)) 6 new (in-card (s .shape) (lit< tt)) (lit< tt) linked))
 
   held-filed : held s ≡ held (filed s y day code)
   held-filed = omega (arith, length-total (cards (filed s y day code)), length-total (cards s), filed-total s (r .fair) y day code one 0 (λ c. omega arith) (ap length (p .only)))
@@ -257,26 +258,25 @@ module _ (w : List ℕ) (s : Store) (r : Rep w s) (y : List ℕ) (day code : ℕ
       heads [] = refl
       heads (c ∷ cs) = refl
 
-  next-free : faultWord w new 0 ≡ first later
+  next-free : faultWord (s .shape) w new 0 ≡ first later
   unfolding faultWord
-  next-free = rw (limit-at w s r) (taken-next w (faultsAt (s .limit)) faultWidth (s .faultLimit) (s .freeFaults) records (lit< tt) some (r .fair .faultCells) (r .faults))
+  next-free = taken-next w (faultsAt (s .shape)) faultWidth (s .shape .faultLimit) (s .freeFaults) records (lit< tt) some (r .fair .faultCells) (r .faults)
 
-  written : fileWords w (card .at) day code ≡ set counted 6 (faultsHeld s + 1)
+  written : fileWords (s .shape) w (card .at) day code ≡ set counted 6 (faultsHeld s + 1)
   unfolding fileWords taken filled linkFor ended counted
   written =
-      let c = limit-at w s r in
       let f = free-faults-at w s r in
       let e = last-fault-at w s r a prior card (p .after) (p .parts) in
       let n = fault-count-at w s r a prior card (p .after) (p .parts) in
       let k = faults-held-at w s r in
-      let next = ap (λ (i : ℕ). faultWord w i 0) f ∙ next-free in
-      λ t. set (set (set (set (sets (set w 8 (next t)) (faultAt (c t) (f t) 0) (0 ∷ day ∷ code ∷ [])) (cond (eqb (e t) 0) (cardAt (card .at) 6) (faultAt (c t) (e t) 0)) (f t)) (cardAt (card .at) 7) (f t)) (cardAt (card .at) 8) (n t + 1)) 6 (k t + 1)
+      let next = ap (λ (i : ℕ). faultWord (s .shape) w i 0) f ∙ next-free in
+      λ t. set (set (set (set (sets (set w 8 (next t)) (faultAt (s .shape) (f t) 0) (0 ∷ day ∷ code ∷ [])) (cond (eqb (e t) 0) (cardAt (s .shape) (card .at) 6) (faultAt (s .shape) (e t) 0)) (f t)) (cardAt (s .shape) (card .at) 7) (f t)) (cardAt (s .shape) (card .at) 8) (n t + 1)) 6 (k t + 1)
 
-  pub rep-filed : Rep (fileWords w (card .at) day code) (filed s y day code)
+  pub rep-filed : Rep (fileWords (s .shape) w (card .at) day code) (filed s y day code)
   unfolding filed front header directory cardsAt
   rep-filed =
       subst (λ (u : List ℕ). Rep u (filed s y day code)) (sym written)
       (whole-rep fair
-      (λ t. fronted (s .limit) (s .faultLimit) (s .maxp) (s .p) (held-filed t) (faults-held-filed t) (first (s .free)) (first later) (directory s) (segments-filed t))
+      (λ t. fronted (s .shape) (s .maxp) (s .p) (held-filed t) (faults-held-filed t) (first (s .free)) (first later) (directory s) (segments-filed t))
       refl (λ h. h)
-      (front-write counted (s .limit) (s .faultLimit) _ _ _ counted-whole 6 (faultsHeld s + 1) (lit< tt)))
+      (front-write counted (s .shape) _ _ _ counted-whole 6 (faultsHeld s + 1) (omega arith)))

@@ -7,13 +7,16 @@ use mathlib.Core.Bool.{true}
 use Prim.Native.Nat.{ℕ, zero, suc, _+_, _≤_, _<_}
 use native.Mathlib.Omega.{arith}
 use lib.ListN.{length, getD, replicate}
-use Rattle.rules.specs.Table.{least, stateOk, sizeOk}
+use Rattle.rules.specs.Table.{least}
+use Rattle.rules.proofs.States.{s16, state-ok}
 use Rattle.rules.proofs.Tests.{eq?}
 use Rattle.model.specs.Lists.{from}
+use Rattle.model.specs.Shape.{Shape}
 use Rattle.model.specs.Model.{Card, fresh}
-use Rattle.model.specs.Layout.{Cell, cardWidth, faultWidth, freeCell, limitsOk, encode, sound}
+use Rattle.model.specs.Layout.{Cell, cardWidth, faultWidth, freeCell, shapeOk, encode, sound}
 use Rattle.model.proofs.Sums.{bit-same, bit-other}
 use Rattle.model.proofs.Each.{many, Each}
+use Rattle.model.proofs.Shapes.{entries-some}
 use Rattle.model.proofs.Fair.{Fair}
 use Rattle.model.proofs.Sound.{good-sound}
 
@@ -57,18 +60,18 @@ none zero b = refl
 none (suc n) zero = refl
 none (suc n) (suc b) = none n b
 
-pub fair-fresh : (c f : ℕ) → limitsOk c f ≡ true → Fair (fresh c f)
-unfolding fresh stateOk sizeOk
-fair-fresh c f l = record {
-  limits = l;
-  state = refl;
+pub fair-fresh : (sh : Shape) → shapeOk sh ≡ true → Fair (fresh sh)
+unfolding fresh
+fair-fresh sh l = record {
+  shape = l;
+  state = state-ok (record { size = s16; below = omega arith; room = omega (arith, entries-some sh) });
   number = refl;
-  cells = each-from cardWidth c;
-  faultCells = each-from faultWidth f;
+  cells = each-from (cardWidth sh) (sh .limit);
+  faultCells = each-from faultWidth (sh .faultLimit);
   addressed = λ b. rw (none least b);
   different = λ y. omega arith;
 }
 
-pub fresh-sound : (c f : ℕ) → limitsOk c f ≡ true → sound (encode (fresh c f)) ≡ true
+pub fresh-sound : (sh : Shape) → shapeOk sh ≡ true → sound (encode (fresh sh)) ≡ true
 unfolding fresh
-fresh-sound c f l = good-sound (fresh c f) (record { fair = fair-fresh c f l; high = omega arith; low = omega arith })
+fresh-sound sh l = good-sound (fresh sh) (record { fair = fair-fresh sh l; high = λ h. omega arith; low = omega arith })

@@ -3,32 +3,39 @@
 -- held changes: not the sums over the cards (`X-total`), not the card of any serial (`X-look`), and each card stands at its new
 -- address (`X-fair`). `grown` and `shrunk` do that or nothing, and bring the load back within its bounds (`grown-good`, `shrunk-good`).
 use Prim.Native.Nat.{ℕ, _+_, _-_, _*_, _%_, _≤_, _<_}
-use mathlib.Core.Path.{_≡_, refl, sym, _∙_}
+use mathlib.Core.Path.{_≡_, refl, sym, ap, _∙_}
 use mathlib.Core.Logic.{_⊎_, inl, inr, ⊎-elim}
 use mathlib.Core.List.{List, [], _∷_, _++_, append-nil}
 use mathlib.Core.Bool.{true, not, cond}
+use native.Mathlib.Nat.{mul-le-mul-left}
 use native.Mathlib.Omega.{arith}
 use lib.Dec.{eqb, ltb}
 use lib.ListN.{length, take, set, length-append, length-set}
 use lib.Seq.{getD-take, length-take-le}
 use borrow.Author.Tests.{eq-eqb, ne-eqb, eqb-true, eqb-false, not-true, ltb-true, lt-ltb}
 use Rattle.rules.specs.Code.{codeOf}
-use Rattle.rules.specs.Table.{least, top, upper, lower, splits, contracts, lowMaxp, lowP}
+use Rattle.rules.specs.Table.{least, top, lowMaxp, lowP}
 use Rattle.rules.proofs.Tests.{by-cases, eq?}
 use Rattle.rules.proofs.States.{state-of}
 use Rattle.rules.proofs.Addresses.{grow-count, grow-ok, grow-moves, grow-two, grow-stays, shrink-ok, shrink-count, shrink-joins, shrink-stays}
 use Rattle.rules.proofs.Loads.{splits-true, splits-false, contracts-true, contracts-false}
 use Rattle.model.specs.Lists.{all, keep, join, total}
-use Rattle.model.specs.Model.{Card, Store, cards, held, size, bucket, addressIn, is, moves, moving, staying, split, grown, contract, shrunk}
+use Rattle.model.specs.Shape.{topOf}
+use Rattle.model.specs.Model.{Card, Store, cards, held, size, over, under, bucket, addressIn, is, moves, moving, staying, split, grown, contract, shrunk}
 use Rattle.model.specs.Layout.{goodCard}
 use Rattle.model.proofs.Lists.{same-eq, keep-append, keep-keep, all-append, all-imp, all-kept, join-append, getD-set, getD-snoc, getD-front}
 use Rattle.model.proofs.Sums.{total-append, total-set, total-last, total-keep, length-total}
-use Rattle.model.proofs.Fair.{one, named, Fair, Good, limits-of, card-count, faultWeight, cells-moved, faultCells-moved, size-least}
+use Rattle.model.proofs.Shapes.{top-most, Shaped, shaped}
+use Rattle.model.proofs.Fair.{one, named, Fair, Good, host-state, faultWeight, cells-moved, faultCells-moved, size-least}
 use Rattle.model.proofs.Look.{look, card-address, card-moved, address-in, elsewhere}
 
 -- growth by one bucket
 
-module _ (s : Store) (r : Fair s) (more : size s < top) where
+module _ (s : Store) (r : Fair s) (more : size s < topOf (s .shape)) where
+  -- there is room for one bucket more by the address rule too
+  room : size s < top
+  room = omega (arith, top-most (s .shape))
+
   pub split-total : (w : Card → ℕ) → total w (cards (split s)) ≡ total w (cards s)
   unfolding split
   split-total w =
@@ -36,7 +43,7 @@ module _ (s : Store) (r : Fair s) (more : size s < top) where
       (omega (
         arith,
         total-append w (join (set (s .buckets) (s .p) (staying s))) (moving s),
-        total-set w (s .buckets) (s .p) (staying s) (omega (arith, r .number, state-of (s .maxp) (s .p) (r .state) .below)),
+        total-set w (s .buckets) (s .p) (staying s) (omega (arith, r .number, state-of (topOf (s .shape)) (s .maxp) (s .p) (r .state) .below)),
         total-keep w (moves s) (bucket s (s .p)),
       ))
 
@@ -48,29 +55,29 @@ module _ (s : Store) (r : Fair s) (more : size s < top) where
         getD-snoc (set (s .buckets) (s .p) (staying s)) (moving s) [] b,
         length-set (s .buckets) (s .p) (staying s),
         r .number,
-        getD-set (s .buckets) (s .p) b (staying s) [] (omega (arith, r .number, state-of (s .maxp) (s .p) (r .state) .below)),
+        getD-set (s .buckets) (s .p) b (staying s) [] (omega (arith, r .number, state-of (topOf (s .shape)) (s .maxp) (s .p) (r .state) .below)),
       )
 
   -- the address of a serial after the split
   moved : (x : List ℕ) → addressIn s x ≡ s .p → addressIn (split s) x ≡ codeOf x % (2 * s .maxp)
   unfolding split
-  moved x e = grow-moves (codeOf x) (s .maxp) (s .p) (r .state) more e
+  moved x e = grow-moves (codeOf x) (s .maxp) (s .p) (host-state s r) room e
 
   halved : (x : List ℕ) → addressIn s x ≡ s .p → (codeOf x % (2 * s .maxp) ≡ s .p) ⊎ (codeOf x % (2 * s .maxp) ≡ size s)
-  halved x e = grow-two (codeOf x) (s .maxp) (s .p) (r .state) more e
+  halved x e = grow-two (codeOf x) (s .maxp) (s .p) (host-state s r) room e
 
   kept : (x : List ℕ) → (addressIn s x ≡ s .p → ⊥) → addressIn (split s) x ≡ addressIn s x
   unfolding split
-  kept x n = grow-stays (codeOf x) (s .maxp) (s .p) (r .state) more n
+  kept x n = grow-stays (codeOf x) (s .maxp) (s .p) (host-state s r) room n
 
   pub split-look : (x : List ℕ) → look (split s) x ≡ look s x
   split-look x = go (eq? (addressIn s x) (s .p))
     where
       half : addressIn s x ≡ s .p → (codeOf x % (2 * s .maxp) ≡ s .p) ⊎ (codeOf x % (2 * s .maxp) ≡ size s) → look (split s) x ≡ look s x
       half e (inl d) =
-          rw (moved x e, d, split-at (s .p), ne-eqb (s .p) (size s) (omega (arith, state-of (s .maxp) (s .p) (r .state) .below)), eq-eqb (s .p) (s .p) refl, e)
+          rw (moved x e, d, split-at (s .p), ne-eqb (s .p) (size s) (omega (arith, state-of (topOf (s .shape)) (s .maxp) (s .p) (r .state) .below)), eq-eqb (s .p) (s .p) refl, e)
           (keep-keep (is x) (λ c. not (moves s c)) (bucket s (s .p))
-          (λ c t. rw (← (same-eq x (c .serial) t), ne-eqb (codeOf x % (2 * s .maxp)) (size s) (omega (arith, state-of (s .maxp) (s .p) (r .state) .below)))))
+          (λ c t. rw (← (same-eq x (c .serial) t), ne-eqb (codeOf x % (2 * s .maxp)) (size s) (omega (arith, state-of (topOf (s .shape)) (s .maxp) (s .p) (r .state) .below)))))
       half e (inr d) =
           rw (moved x e, d, split-at (size s), eq-eqb (size s) (size s) refl, e)
           (keep-keep (is x) (moves s) (bucket s (s .p)) (λ c t. rw (← (same-eq x (c .serial) t)) (eq-eqb (codeOf x % (2 * s .maxp)) (size s) d)))
@@ -109,8 +116,8 @@ module _ (s : Store) (r : Fair s) (more : size s < top) where
   unfolding split
   split-fair =
       record {
-        limits = r .limits;
-        state = grow-ok (s .maxp) (s .p) (r .state) more;
+        shape = r .shape;
+        state = grow-ok (topOf (s .shape)) (s .maxp) (s .p) (top-most (s .shape)) (r .state) more;
         number = omega (arith, r .number, split-size, length-append (set (s .buckets) (s .p) (staying s)) (moving s ∷ []), length-set (s .buckets) (s .p) (staying s));
         cells = cells-moved s (split s) (λ w. omega (arith, split-total (λ c. w (c .at)))) (r .cells);
         faultCells = faultCells-moved s (split s) (λ w. omega (arith, split-total (faultWeight w))) (r .faultCells);
@@ -129,10 +136,10 @@ joined s = lowP (s .maxp) (s .p)
 
 module _ (s : Store) (r : Fair s) (more : least < size s) where
   last : lowMaxp (s .maxp) (s .p) + joined s ≡ going s
-  last = omega (arith, shrink-count (s .maxp) (s .p) (r .state) more)
+  last = omega (arith, shrink-count (s .maxp) (s .p) (host-state s r) more)
 
   inside : joined s < going s
-  inside = omega (arith, last, state-of (lowMaxp (s .maxp) (s .p)) (joined s) (shrink-ok (s .maxp) (s .p) (r .state) more) .below)
+  inside = omega (arith, last, state-of (topOf (s .shape)) (lowMaxp (s .maxp) (s .p)) (joined s) (shrink-ok (topOf (s .shape)) (s .maxp) (s .p) (r .state) more) .below)
 
   front : length (take (going s) (s .buckets)) ≡ going s
   front = length-take-le (going s) (s .buckets) (omega (arith, r .number))
@@ -157,11 +164,11 @@ module _ (s : Store) (r : Fair s) (more : least < size s) where
   -- the address of a serial after the contraction
   joins : (x : List ℕ) → addressIn s x ≡ going s → addressIn (contract s) x ≡ joined s
   unfolding contract
-  joins x e = shrink-joins (s .maxp) (s .p) (r .state) more (codeOf x) (e ∙ sym last)
+  joins x e = shrink-joins (s .maxp) (s .p) (host-state s r) more (codeOf x) (e ∙ sym last)
 
   remains : (x : List ℕ) → (addressIn s x ≡ going s → ⊥) → addressIn (contract s) x ≡ addressIn s x
   unfolding contract
-  remains x n = shrink-stays (s .maxp) (s .p) (r .state) more (codeOf x) (λ e. n (e ∙ last))
+  remains x n = shrink-stays (s .maxp) (s .p) (host-state s r) more (codeOf x) (λ e. n (e ∙ last))
 
   pub contract-look : (x : List ℕ) → look (contract s) x ≡ look s x
   contract-look x = go (eq? (addressIn s x) (going s)) (eq? (addressIn s x) (joined s))
@@ -208,14 +215,14 @@ module _ (s : Store) (r : Fair s) (more : least < size s) where
 
   pub contract-size : size (contract s) + 1 ≡ size s
   unfolding contract
-  contract-size = shrink-count (s .maxp) (s .p) (r .state) more
+  contract-size = shrink-count (s .maxp) (s .p) (host-state s r) more
 
   pub contract-fair : Fair (contract s)
   unfolding contract
   contract-fair =
       record {
-        limits = r .limits;
-        state = shrink-ok (s .maxp) (s .p) (r .state) more;
+        shape = r .shape;
+        state = shrink-ok (topOf (s .shape)) (s .maxp) (s .p) (r .state) more;
         number = length-set (take (going s) (s .buckets)) (joined s) _ ∙ front ∙ sym last;
         cells = cells-moved s (contract s) (λ w. omega (arith, contract-total (λ c. w (c .at)))) (r .cells);
         faultCells = faultCells-moved s (contract s) (λ w. omega (arith, contract-total (faultWeight w))) (r .faultCells);
@@ -223,56 +230,83 @@ module _ (s : Store) (r : Fair s) (more : least < size s) where
         different = λ x. omega (arith, contract-total (named x), r .different x);
       }
 
+-- the shape stays
+
+split-shape : (s : Store) → split s .shape ≡ s .shape
+unfolding split
+split-shape s = refl
+
+contract-shape : (s : Store) → contract s .shape ≡ s .shape
+unfolding contract
+contract-shape s = refl
+
 -- the load rules
 
 module _ (s : Store) (r : Fair s) where
-  -- with so many cards that it must split, there is a bucket to be had
-  pub split-room : splits (held s) (size s) ≡ true → size s < top
-  split-room e = omega (arith, splits-true (held s) (size s) e, card-count s, r .cells .count, limits-of (s .limit) (s .faultLimit) (r .limits))
+  -- where it must split, there is a bucket to be had
+  pub split-room : over s ≡ true → size s < topOf (s .shape)
+  split-room e = splits-true (topOf (s .shape)) (s .shape .upper) (held s) (size s) e .1
 
   pub grown-total : (w : Card → ℕ) → total w (cards (grown s)) ≡ total w (cards s)
   unfolding grown
-  grown-total w = by-cases (splits (held s) (size s)) (λ e. rw e (split-total s r (split-room e) w)) (λ e. rw e)
+  grown-total w = by-cases (over s) (λ e. rw e (split-total s r (split-room e) w)) (λ e. rw e)
 
   pub grown-look : (x : List ℕ) → look (grown s) x ≡ look s x
   unfolding grown
-  grown-look x = by-cases (splits (held s) (size s)) (λ e. rw e (split-look s r (split-room e) x)) (λ e. rw e)
+  grown-look x = by-cases (over s) (λ e. rw e (split-look s r (split-room e) x)) (λ e. rw e)
 
   pub grown-fair : Fair (grown s)
   unfolding grown
-  grown-fair = by-cases (splits (held s) (size s)) (λ e. rw e (split-fair s r (split-room e))) (λ e. rw e r)
+  grown-fair = by-cases (over s) (λ e. rw e (split-fair s r (split-room e))) (λ e. rw e r)
 
   pub shrunk-total : (w : Card → ℕ) → total w (cards (shrunk s)) ≡ total w (cards s)
   unfolding shrunk
-  shrunk-total w = by-cases (contracts (held s) (size s)) (λ e. rw e (contract-total s r (contracts-true (held s) (size s) e .1) w)) (λ e. rw e)
+  shrunk-total w = by-cases (under s) (λ e. rw e (contract-total s r (contracts-true (s .shape .lower) (held s) (size s) e .1) w)) (λ e. rw e)
 
   pub shrunk-look : (x : List ℕ) → look (shrunk s) x ≡ look s x
   unfolding shrunk
-  shrunk-look x = by-cases (contracts (held s) (size s)) (λ e. rw e (contract-look s r (contracts-true (held s) (size s) e .1) x)) (λ e. rw e)
+  shrunk-look x = by-cases (under s) (λ e. rw e (contract-look s r (contracts-true (s .shape .lower) (held s) (size s) e .1) x)) (λ e. rw e)
 
   pub shrunk-fair : Fair (shrunk s)
   unfolding shrunk
-  shrunk-fair = by-cases (contracts (held s) (size s)) (λ e. rw e (contract-fair s r (contracts-true (held s) (size s) e .1))) (λ e. rw e r)
+  shrunk-fair = by-cases (under s) (λ e. rw e (contract-fair s r (contracts-true (s .shape .lower) (held s) (size s) e .1))) (λ e. rw e r)
+
+  -- U and L over the buckets: a bucket counts for L at least, and twice L is at most U
+  bounds : Shaped (s .shape)
+  bounds = shaped (s .shape) (r .shape)
+
+  halved-load : 2 * (s .shape .lower * size s) ≤ s .shape .upper * size s
+  halved-load = let h : size s * (2 * s .shape .lower) ≤ size s * s .shape .upper = mul-le-mul-left (size s) (bounds .half) in omega arith
+
+  some-load : 16 * s .shape .lower ≤ s .shape .lower * size s
+  some-load = let h : s .shape .lower * 16 ≤ s .shape .lower * size s = mul-le-mul-left (s .shape .lower) (size-least s r) in omega arith
 
   -- one card too many is mended by one bucket more, one card too few by one bucket less
-  pub grown-good : held s ≤ upper * size s + 1 → (least < size s → lower * size s ≤ held s) → Good (grown s)
+  pub grown-good : (size s < topOf (s .shape) → held s ≤ s .shape .upper * size s + 1) → (least < size s → s .shape .lower * size s ≤ held s) → Good (grown s)
   unfolding grown
   grown-good hi lo =
-      by-cases (splits (held s) (size s))
+      by-cases (over s)
       (λ e. let m = split-room e in
       let n : held (split s) ≡ held s = length-total (cards (split s)) ∙ split-total s r m one ∙ sym (length-total (cards s)) in
       let z = split-size s r m in
-      let f = splits-true (held s) (size s) e in
-      rw e (record { fair = split-fair s r m; high = omega arith; low = λ h. omega (arith, size-least s r) }))
-      (λ e. rw e (record { fair = r; high = splits-false (held s) (size s) e; low = lo }))
+      let f = splits-true (topOf (s .shape)) (s .shape .upper) (held s) (size s) e .0 in
+      let u : split s .shape .upper * size (split s) ≡ s .shape .upper * size s + s .shape .upper = (λ i. split-shape s i .upper * z i) ∙ omega arith in
+      let l : split s .shape .lower * size (split s) ≡ s .shape .lower * size s + s .shape .lower = (λ i. split-shape s i .lower * z i) ∙ omega arith in
+      rw e (record { fair = split-fair s r m; high = λ k. omega (arith, hi m, bounds .two); low = λ k. omega (arith, halved-load, some-load, bounds .one) }))
+      (λ e. rw e (record { fair = r; high = λ m. ⊎-elim (λ l. l) (λ l. absurd (omega arith)) (splits-false (topOf (s .shape)) (s .shape .upper) (held s) (size s) e); low = lo }))
 
-  pub shrunk-good : held s ≤ upper * size s → (least < size s → lower * size s ≤ held s + 1) → Good (shrunk s)
+  pub shrunk-good : (size s < topOf (s .shape) → held s ≤ s .shape .upper * size s) → (least < size s → s .shape .lower * size s ≤ held s + 1) → Good (shrunk s)
   unfolding shrunk
   shrunk-good hi lo =
-      by-cases (contracts (held s) (size s))
-      (λ e. let f = contracts-true (held s) (size s) e in
+      by-cases (under s)
+      (λ e. let f = contracts-true (s .shape .lower) (held s) (size s) e in
       let n : held (contract s) ≡ held s = length-total (cards (contract s)) ∙ contract-total s r (f .1) one ∙ sym (length-total (cards s)) in
       let z = contract-size s r (f .1) in
       let l = lo (f .1) in
-      rw e (record { fair = contract-fair s r (f .1); high = omega arith; low = λ h. omega arith }))
-      (λ e. rw e (record { fair = r; high = hi; low = λ h. ⊎-elim (λ l. l) (λ l. absurd (omega arith)) (contracts-false (held s) (size s) e) }))
+      let c : s .shape .upper * size s ≡ contract s .shape .upper * size (contract s) + contract s .shape .upper = (λ i. sym (contract-shape s) i .upper * sym z i) ∙ omega arith in
+      let d : s .shape .lower * size s ≡ contract s .shape .lower * size (contract s) + contract s .shape .lower = (λ i. sym (contract-shape s) i .lower * sym z i) ∙ omega arith in
+      let u : s .shape .upper * 16 ≤ s .shape .upper * size s = mul-le-mul-left (s .shape .upper) (size-least s r) in
+      let v : contract s .shape .upper ≡ s .shape .upper = (λ i. contract-shape s i .upper) in
+      let v′ : contract s .shape .lower ≡ s .shape .lower = (λ i. contract-shape s i .lower) in
+      rw e (record { fair = contract-fair s r (f .1); high = λ k. omega (arith, f .0, halved-load); low = λ h. omega (arith, bounds .one) }))
+      (λ e. rw e (record { fair = r; high = hi; low = λ h. ⊎-elim (λ l. l) (λ l. absurd (omega arith)) (contracts-false (s .shape .lower) (held s) (size s) e) }))

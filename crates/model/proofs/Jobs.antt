@@ -17,7 +17,8 @@ use Rattle.model.specs.Calls.{scratchNeed, cleaned}
 use Rattle.model.specs.Runs.{Act, perform}
 use Rattle.model.specs.Runs as Runs
 use Rattle.model.specs.Job.{linesOf, Line, bad, enter, show, withdraw, file, kind, lineOf, padded, enough, stepOf, answerText, Tally, Run, runLines, started, Finished, turnedAway, jobIf, mostText, job}
-use Rattle.model.proofs.Fair.{filings, Good, limits-of, faults-total}
+use Rattle.model.proofs.Fair.{filings, Good, faults-total}
+use Rattle.model.proofs.Shapes.{shaped}
 use Rattle.model.proofs.Look.{look}
 use Rattle.model.proofs.Steps.{removed-total}
 use Rattle.model.proofs.Cases.{faults-fit, enter-cases, file-cases}
@@ -169,7 +170,7 @@ module _ (w scratch text out : List ℕ) (t : Tally) where
 -- a history has at most as many faults as a store can hold
 history-fits : (s : Store) → Good s → (y : List ℕ) → length (historyIn s y) ≤ mostFaults
 history-fits s g y =
-    omega (arith, faults-total (look s y), faults-total (cards s), removed-total s (g .fair) y filings, faults-fit s g, limits-of (s .limit) (s .faultLimit) (g .fair .limits) .mostFaults)
+    omega (arith, faults-total (look s y), faults-total (cards s), removed-total s (g .fair) y filings, faults-fit s g, shaped (s .shape) (g .fair .shape) .mostFaults)
 
 pub enough-long : length enough ≡ 2 * mostFaults
 unfolding enough

@@ -8,6 +8,7 @@ pub mod Chains
 pub mod Part
 pub mod Writes
 -- The store as facts
+pub mod Shapes
 pub mod Fair
 -- The words of a store
 pub mod Rep

@@ -19,7 +19,7 @@ use Rattle.model.specs.Serial.{serialOk}
 use Rattle.model.specs.Model.{Card, Store, cards, bucket, addressIn, chainFor, is, found}
 use Rattle.model.specs.Layout.{goodCard}
 use Rattle.model.proofs.Lists.{same-refl, same-eq, keep-none, keep-join, getD-set}
-use Rattle.model.proofs.Fair.{named, Fair, times-total}
+use Rattle.model.proofs.Fair.{named, Fair, host-state, times-total}
 
 -- the card of a serial, if it is held: what every answer is read off
 abbrev pub look : Store → List ℕ → List Card
@@ -40,7 +40,7 @@ card-moved m p b m′ p′ b′ c e t =
 
 module _ (s : Store) (r : Fair s) where
   pub address-in : (y : List ℕ) → addressIn s y < length (s .buckets)
-  address-in y = omega (arith, address-below (codeOf y) (s .maxp) (s .p) (r .state), r .number)
+  address-in y = omega (arith, address-below (codeOf y) (s .maxp) (s .p) (host-state s r), r .number)
 
   -- no card of a serial stands in another bucket
   pub elsewhere : (x : List ℕ) (b : ℕ) → addressIn s x ≢ b → keep (is x) (bucket s b) ≡ []

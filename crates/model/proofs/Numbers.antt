@@ -25,8 +25,8 @@ miss f g = (λ x. absurd (f x), λ y. absurd (g y))
 pub record EnterNumbers (s : Store) (bytes : List ℕ) (n k : ℕ) : Type 0 where
   pub invalid : (k ≡ 4) ↔ (validSerial bytes n ≡ false)
   pub twice : (k ≡ 6) ↔ ((validSerial bytes n ≡ true) × (length (look s (take n bytes)) ≡ 1))
-  pub full : (k ≡ 8) ↔ ((validSerial bytes n ≡ true) × (look s (take n bytes) ≡ []) × (held s ≡ s .limit))
-  pub done : (k ≡ 0) ↔ ((validSerial bytes n ≡ true) × (look s (take n bytes) ≡ []) × (held s < s .limit))
+  pub full : (k ≡ 8) ↔ ((validSerial bytes n ≡ true) × (look s (take n bytes) ≡ []) × (held s ≡ s .shape .limit))
+  pub done : (k ≡ 0) ↔ ((validSerial bytes n ≡ true) × (look s (take n bytes) ≡ []) × (held s < s .shape .limit))
 
 pub enter-numbers : (s : Store) → Good s → (bytes : List ℕ) (n : ℕ) → EnterNumbers s bytes n (enterStep s bytes n .answer .number)
 enter-numbers s g bytes n =
@@ -60,8 +60,8 @@ pub record FileNumbers (s : Store) (bytes : List ℕ) (n day code k : ℕ) : Typ
   pub invalid : (k ≡ 4) ↔ (validSerial bytes n ≡ false)
   pub bad : (k ≡ 5) ↔ ((validSerial bytes n ≡ true) × (validFault day code ≡ false))
   pub missing : (k ≡ 7) ↔ ((validSerial bytes n ≡ true) × (validFault day code ≡ true) × (look s (take n bytes) ≡ []))
-  pub full : (k ≡ 9) ↔ ((validSerial bytes n ≡ true) × (validFault day code ≡ true) × (length (look s (take n bytes)) ≡ 1) × (faultsHeld s ≡ s .faultLimit))
-  pub done : (k ≡ 0) ↔ ((validSerial bytes n ≡ true) × (validFault day code ≡ true) × (length (look s (take n bytes)) ≡ 1) × (faultsHeld s < s .faultLimit))
+  pub full : (k ≡ 9) ↔ ((validSerial bytes n ≡ true) × (validFault day code ≡ true) × (length (look s (take n bytes)) ≡ 1) × (faultsHeld s ≡ s .shape .faultLimit))
+  pub done : (k ≡ 0) ↔ ((validSerial bytes n ≡ true) × (validFault day code ≡ true) × (length (look s (take n bytes)) ≡ 1) × (faultsHeld s < s .shape .faultLimit))
 
 pub file-numbers : (s : Store) → Good s → (bytes : List ℕ) (n day code : ℕ) → FileNumbers s bytes n day code (fileStep s bytes n day code .answer .number)
 file-numbers s g bytes n day code =

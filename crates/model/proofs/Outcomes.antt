@@ -13,8 +13,8 @@ use lib.ListN.{length}
 use borrow.Author.Tests.{eqb-true, eqb-false, ltb-true, ltb-false}
 use Rattle.rules.proofs.Tests.{by-cases, not-both}
 use Rattle.model.specs.Model.{Store, fresh}
-use Rattle.model.specs.Layout.{limitsOk, lengthFor, encode, decode, sound}
-use Rattle.model.specs.Calls.{Outcome, Opened, refused, scratchNeed, cleaned, call, openCall}
+use Rattle.model.specs.Layout.{limitsOk, formatOk, shapeOk, lengthFor, encode, decode, sound}
+use Rattle.model.specs.Calls.{Outcome, Terms, shapeFor, Opened, refused, scratchNeed, cleaned, call, openCall}
 use Rattle.model.specs.Runs.{Act, roomOf, perform, Call, Call.opening, Call.acting, outcome, wordsAfter, run}
 use Rattle.model.proofs.Fair.{Fair}
 use Rattle.model.proofs.Rep.{rep-encode}
@@ -27,17 +27,22 @@ use Rattle.model.proofs.Demand3.{good-act}
 pub read-back : (s : Store) → Fair s → decode (encode s) ≡ s
 read-back s r = rep-decode (encode s) s (rep-encode s r)
 
-pub open-cases : (w : List ℕ) (c f : ℕ) (P : Opened → Type 0)
-    → (limitsOk c f ≡ false → P (record { number = 1; words = w }))
-    → (limitsOk c f ≡ true → (length w ≡ lengthFor c f → ⊥) → P (record { number = 2; words = w }))
-    → (limitsOk c f ≡ true → length w ≡ lengthFor c f → P (record { number = 0; words = encode (fresh c f) }))
-    → P (openCall w c f)
+-- terms in range make a shape
+pub terms-ok : (t : Terms) → limitsOk (t .cards) (t .faults) ≡ true → shapeOk (shapeFor t) ≡ true
+unfolding shapeFor shapeOk formatOk
+terms-ok t l = l
+
+pub open-cases : (w : List ℕ) (t : Terms) (P : Opened → Type 0)
+    → (limitsOk (t .cards) (t .faults) ≡ false → P (record { number = 1; words = w }))
+    → (shapeOk (shapeFor t) ≡ true → limitsOk (t .cards) (t .faults) ≡ true → (length w ≡ lengthFor (shapeFor t) → ⊥) → P (record { number = 2; words = w }))
+    → (shapeOk (shapeFor t) ≡ true → limitsOk (t .cards) (t .faults) ≡ true → length w ≡ lengthFor (shapeFor t) → P (record { number = 0; words = encode (fresh (shapeFor t)) }))
+    → P (openCall w t)
 unfolding openCall
-open-cases w c f P limits long done =
-    by-cases (limitsOk c f)
-    (λ v. rw v (by-cases (eqb (length w) (lengthFor c f))
-    (λ e. rw e (done v (eqb-true (length w) (lengthFor c f) e)))
-    (λ e. rw e (long v (eqb-false (length w) (lengthFor c f) e)))))
+open-cases w t P limits long done =
+    by-cases (limitsOk (t .cards) (t .faults))
+    (λ v. rw v (by-cases (eqb (length w) (lengthFor (shapeFor t)))
+    (λ e. rw e (done (terms-ok t v) v (eqb-true (length w) (lengthFor (shapeFor t)) e)))
+    (λ e. rw e (long (terms-ok t v) v (eqb-false (length w) (lengthFor (shapeFor t)) e)))))
     (λ v. rw v (limits v))
 
 pub call-cases : (w scratch : List ℕ) (a : Act) → sound w ≡ true → (P : Outcome → Type 0)
@@ -52,13 +57,13 @@ call-cases w scratch a ok P short done =
     (λ e. rw (e, ok) (done (ltb-false (length scratch) scratchNeed e)))
 
 -- an accepted Open leaves the words of a fresh store
-pub opened-fresh : (w : List ℕ) (c f : ℕ) → openCall w c f .number ≡ 0 → (limitsOk c f ≡ true) × (openCall w c f .words ≡ encode (fresh c f))
-opened-fresh w c f = open-cases w c f (λ r. r .number ≡ 0 → (limitsOk c f ≡ true) × (r .words ≡ encode (fresh c f)))
-    (λ v e. absurd (omega arith)) (λ v n e. absurd (omega arith)) (λ v l e. (v, refl))
+pub opened-fresh : (w : List ℕ) (t : Terms) → openCall w t .number ≡ 0 → (shapeOk (shapeFor t) ≡ true) × (openCall w t .words ≡ encode (fresh (shapeFor t)))
+opened-fresh w t = open-cases w t (λ r. r .number ≡ 0 → (shapeOk (shapeFor t) ≡ true) × (r .words ≡ encode (fresh (shapeFor t))))
+    (λ v e. absurd (omega arith)) (λ ok v n e. absurd (omega arith)) (λ ok v l e. (ok, refl))
 
 -- every call leaves sound words sound
 pub sound-call : (w : List ℕ) → sound w ≡ true → (c : Call) → sound (wordsAfter w c) ≡ true
-sound-call w ok (opening c f) = open-cases w c f (λ r. sound (r .words) ≡ true) (λ v. ok) (λ v n. ok) (λ v l. fresh-sound c f v)
+sound-call w ok (opening t) = open-cases w t (λ r. sound (r .words) ≡ true) (λ v. ok) (λ k v n. ok) (λ k v l. fresh-sound (shapeFor t) k)
 sound-call w ok (acting scratch a) =
     call-cases w scratch a ok (λ r. sound (r .words) ≡ true) (λ h. ok) (λ h. good-sound (perform (decode w) a .store) (good-act (decode w) (sound-good w ok .0) a))
 
@@ -91,14 +96,14 @@ call-numbers w scratch a =
     rw t (record { short = miss (n .1) (omega arith); unsound = miss (n .0) (λ c. not-both t (c .1)) }))
     (λ t. rw t (record { short = miss (omega arith) (omega arith); unsound = hit refl (h, t) }))))
 
-pub record OpenNumbers (w : List ℕ) (c f k : ℕ) : Type 0 where
-  pub limits : (k ≡ 1) ↔ (limitsOk c f ≡ false)
-  pub long : (k ≡ 2) ↔ ((limitsOk c f ≡ true) × (length w ≡ lengthFor c f → ⊥))
-  pub done : (k ≡ 0) ↔ ((limitsOk c f ≡ true) × (length w ≡ lengthFor c f))
+pub record OpenNumbers (w : List ℕ) (t : Terms) (k : ℕ) : Type 0 where
+  pub limits : (k ≡ 1) ↔ (limitsOk (t .cards) (t .faults) ≡ false)
+  pub long : (k ≡ 2) ↔ ((limitsOk (t .cards) (t .faults) ≡ true) × (length w ≡ lengthFor (shapeFor t) → ⊥))
+  pub done : (k ≡ 0) ↔ ((limitsOk (t .cards) (t .faults) ≡ true) × (length w ≡ lengthFor (shapeFor t)))
 
-pub open-numbers : (w : List ℕ) (c f : ℕ) → OpenNumbers w c f (openCall w c f .number)
-open-numbers w c f =
-    open-cases w c f (λ r. OpenNumbers w c f (r .number))
+pub open-numbers : (w : List ℕ) (t : Terms) → OpenNumbers w t (openCall w t .number)
+open-numbers w t =
+    open-cases w t (λ r. OpenNumbers w t (r .number))
     (λ v. record { limits = hit refl v; long = miss (omega arith) (λ c. not-both (c .0) v); done = miss (omega arith) (λ c. not-both (c .0) v) })
-    (λ v n. record { limits = miss (omega arith) (λ c. not-both v c); long = hit refl (v, n); done = miss (omega arith) (λ c. n (c .1)) })
-    (λ v l. record { limits = miss (omega arith) (λ c. not-both v c); long = miss (omega arith) (λ c. c .1 l); done = hit refl (v, l) })
+    (λ ok v n. record { limits = miss (omega arith) (λ c. not-both v c); long = hit refl (v, n); done = miss (omega arith) (λ c. n (c .1)) })
+    (λ ok v l. record { limits = miss (omega arith) (λ c. not-both v c); long = miss (omega arith) (λ c. c .1 l); done = hit refl (v, l) })

@@ -8,14 +8,16 @@ use mathlib.Core.Bool.{true}
 use lib.Dec.{lit<}
 use lib.ListN.{length, getD}
 use Rattle.model.specs.Serial.{serialOk}
+use Rattle.model.specs.Shape.{Shape}
 use Rattle.model.specs.Model.{Store, Card, cards, held, faultsHeld, bucket, cellsOf, faultCellsOf}
 use Rattle.model.specs.Layout.{Cell, headOr, chained, cardWidth, segmentsAt, cardsAt, cardCell, header, front, first, last, cardWord, readCard, readChain}
 use Rattle.model.specs.Meaning.{bucketWord, bucketCells, serialIn, bytesIn}
 use Rattle.model.proofs.Lists.{map-append, Every}
 use Rattle.model.proofs.Chains.{Memory, Stands, Stand, stand-parts, chained-append}
 use Rattle.model.proofs.Part.{cellIn}
+use Rattle.model.proofs.Shapes.{in-card}
 use Rattle.model.proofs.Serials.{serial-read}
-use Rattle.model.proofs.Rep.{Rep, rep-front, size-top}
+use Rattle.model.proofs.Rep.{Rep, rep-front, rep-head, size-top}
 use Rattle.model.proofs.Decode.{head-cards, segment-at, cards-at, read-chain}
 
 -- what is read at a cell, of lists that are read cell by cell
@@ -37,68 +39,68 @@ pub stand-at : (width : ℕ) (word : Memory) (xs : List Cell) (x : Cell) (ys : L
 stand-at width word xs x ys r = stand-parts width word (chained (x .at) xs) (chained 0 (x ∷ ys)) (rw (← (chained-append 0 xs (x ∷ ys))) r) .1 .0
 
 -- the serial of a card whose cell stands
-pub serial-stands : (w : List ℕ) (t : ℕ) (x : Card) → serialOk (x .serial) ≡ true
-    → Stands (cellIn w cardsAt cardWidth) cardWidth (record { at = x .at; words = t ∷ cardCell x .words }) → serialIn w (x .at) ≡ x .serial
+pub serial-stands : (sh : Shape) (w : List ℕ) (t : ℕ) (x : Card) → serialOk (x .serial) ≡ true
+    → Stands (cellIn w (cardsAt sh) (cardWidth sh)) (cardWidth sh) (record { at = x .at; words = t ∷ cardCell x .words }) → serialIn sh w (x .at) ≡ x .serial
 unfolding serialIn bytesIn cardWord cardCell
-serial-stands w t x v q = serial-read _ _ _ _ _ (x .serial) v (q 1 (lit< tt)) (q 2 (lit< tt)) (q 3 (lit< tt)) (q 4 (lit< tt)) (q 5 (lit< tt))
+serial-stands sh w t x v q = serial-read _ _ _ _ _ (x .serial) v (q 1 (in-card sh (lit< tt))) (q 2 (in-card sh (lit< tt))) (q 3 (in-card sh (lit< tt))) (q 4 (in-card sh (lit< tt))) (q 5 (in-card sh (lit< tt)))
 
 module _ (w : List ℕ) (s : Store) (r : Rep w s) where
   -- the header
   pub maxp-at : getD w 3 0 ≡ s .maxp
-  unfolding front header cardsAt
-  maxp-at = rep-front r 3 (lit< tt)
+  unfolding front header
+  maxp-at = rep-head r 3 (lit< tt)
 
   pub p-at : getD w 4 0 ≡ s .p
-  unfolding front header cardsAt
-  p-at = rep-front r 4 (lit< tt)
+  unfolding front header
+  p-at = rep-head r 4 (lit< tt)
 
   pub held-at : getD w 5 0 ≡ held s
-  unfolding front header cardsAt
-  held-at = rep-front r 5 (lit< tt)
+  unfolding front header
+  held-at = rep-head r 5 (lit< tt)
 
   pub faults-held-at : getD w 6 0 ≡ faultsHeld s
-  unfolding front header cardsAt
-  faults-held-at = rep-front r 6 (lit< tt)
+  unfolding front header
+  faults-held-at = rep-head r 6 (lit< tt)
 
   pub free-at : getD w 7 0 ≡ first (s .free)
-  unfolding front header cardsAt
-  free-at = rep-front r 7 (lit< tt)
+  unfolding front header
+  free-at = rep-head r 7 (lit< tt)
 
   pub free-faults-at : getD w 8 0 ≡ first (s .freeFaults)
-  unfolding front header cardsAt
-  free-faults-at = rep-front r 8 (lit< tt)
+  unfolding front header
+  free-faults-at = rep-head r 8 (lit< tt)
 
   -- a bucket
-  pub bucket-at : (b : ℕ) → b < length (s .buckets) → bucketWord w b ≡ first (cellsOf (bucket s b))
+  pub bucket-at : (b : ℕ) → b < length (s .buckets) → bucketWord (s .shape) w b ≡ first (cellsOf (bucket s b))
   unfolding cardsAt
-  bucket-at b h = rep-front r (segmentsAt + b) (omega (arith, r .fair .number, size-top s (r .fair))) ∙ segment-at s b h ∙ sym (head-cards (bucket s b))
+  bucket-at b h = rep-front r (segmentsAt (s .shape) + b) (omega (arith, r .fair .number, size-top s (r .fair))) ∙ segment-at s b h ∙ sym (head-cards (bucket s b))
 
-  chain-back : (b : ℕ) → b < length (s .buckets) → (cellsOf (bucket s b) ≡ bucketCells w b) × Every (λ c. readCard w (c .at) ≡ c) (bucket s b)
+  chain-back : (b : ℕ) → b < length (s .buckets) → (cellsOf (bucket s b) ≡ bucketCells (s .shape) w b) × Every (λ c. readCard (s .shape) w (c .at) ≡ c) (bucket s b)
   unfolding readCard readChain bucketCells
-  chain-back b h = read-back (λ c. c .at) (readCard w) (λ i. refl) (bucketCells w b) (bucket s b) (read-chain w s r b h)
+  chain-back b h = read-back (λ c. c .at) (readCard (s .shape) w) (λ i. refl) (bucketCells (s .shape) w b) (bucket s b) (read-chain w s r b h)
 
-  pub chain-at : (b : ℕ) → b < length (s .buckets) → bucketCells w b ≡ cellsOf (bucket s b)
+  pub chain-at : (b : ℕ) → b < length (s .buckets) → bucketCells (s .shape) w b ≡ cellsOf (bucket s b)
   chain-at b h = sym (chain-back b h .0)
 
   -- the card x of bucket b
   module _ (b : ℕ) (xs : List Card) (x : Card) (ys : List Card) (e : bucket s b ≡ xs ++ (x ∷ ys)) where
-    card-stands : Stands (cellIn w cardsAt cardWidth) cardWidth (record { at = cardCell x .at; words = headOr 0 (map cardCell ys) ∷ cardCell x .words })
+    card-stands : Stands (cellIn w (cardsAt (s .shape)) (cardWidth (s .shape))) (cardWidth (s .shape)) (record { at = cardCell x .at; words = headOr 0 (map cardCell ys) ∷ cardCell x .words })
     card-stands =
-        stand-at cardWidth (cellIn w cardsAt cardWidth) (map cardCell xs) (cardCell x) (map cardCell ys)
-        (subst (λ (l : List Cell). Stand (cellIn w cardsAt cardWidth) cardWidth (chained 0 l)) (cards-at w s r b ∙ ap (map cardCell) e ∙ map-append cardCell xs (x ∷ ys)) (r .cards (suc b)))
+        stand-at (cardWidth (s .shape)) (cellIn w (cardsAt (s .shape)) (cardWidth (s .shape))) (map cardCell xs) (cardCell x) (map cardCell ys)
+        (subst (λ (l : List Cell). Stand (cellIn w (cardsAt (s .shape)) (cardWidth (s .shape))) (cardWidth (s .shape)) (chained 0 l)) (cards-at w s r b ∙ ap (map cardCell) e ∙ map-append cardCell xs (x ∷ ys)) (r .cards (suc b)))
 
-    pub next-at : cardWord w (x .at) 0 ≡ first (cellsOf ys)
+    pub next-at : cardWord (s .shape) w (x .at) 0 ≡ first (cellsOf ys)
     unfolding cardWord cardCell
-    next-at = card-stands 0 (lit< tt) ∙ sym (head-cards ys)
+    next-at = card-stands 0 (in-card (s .shape) (lit< tt)) ∙ sym (head-cards ys)
 
-    pub first-fault-at : cardWord w (x .at) 6 ≡ first (faultCellsOf (x .faults))
+    pub first-fault-at : cardWord (s .shape) w (x .at) 6 ≡ first (faultCellsOf (x .faults))
     unfolding cardWord cardCell
-    first-fault-at = card-stands 6 (lit< tt)
+    first-fault-at = card-stands 6 (in-card (s .shape) (lit< tt))
 
-    pub last-fault-at : cardWord w (x .at) 7 ≡ last (faultCellsOf (x .faults))
+    pub last-fault-at : cardWord (s .shape) w (x .at) 7 ≡ last (faultCellsOf (x .faults))
     unfolding cardWord cardCell
-    last-fault-at = card-stands 7 (lit< tt)
+    last-fault-at = card-stands 7 (in-card (s .shape) (lit< tt))
 
-    pub fault-count-at : cardWord w (x .at) 8 ≡ length (faultCellsOf (x .faults))
+    pub fault-count-at : cardWord (s .shape) w (x .at) 8 ≡ length (faultCellsOf (x .faults))
     unfolding cardWord cardCell
-    fault-count-at = card-stands 8 (lit< tt)
+    fault-count-at = card-stands 8 (in-card (s .shape) (lit< tt))

@@ -12,7 +12,7 @@ use Rattle.rules.proofs.Tests.{by-cases}
 use Rattle.model.specs.Layout.{encode, decode, sound}
 use Rattle.model.specs.Lists.{total}
 use Rattle.model.specs.Model.{Card, Store, cards}
-use Rattle.model.specs.Calls.{Step, scratchNeed, call, openCall}
+use Rattle.model.specs.Calls.{Terms, Step, scratchNeed, call, openCall}
 use Rattle.model.specs.Runs.{Act, Act.enter, Act.file, Act.show, Act.withdraw, roomOf, perform, outcome}
 use Rattle.model.specs.Job.{Tally, Finished, linesOf, started, job}
 use Rattle.model.proofs.Sums.{length-total}
@@ -41,8 +41,8 @@ refused-act s g (show bytes n room) =
 refused-act s g (withdraw bytes n room) =
     withdraw-cases s g bytes n (Leaves s room) room (λ v h. (refl, refl)) (λ v l h. (refl, refl)) (λ v l f h. (refl, refl)) (λ v l f h. absurd (h refl))
 
-pub refused-open : (w : List ℕ) (c f : ℕ) → (openCall w c f .number ≡ 0 → ⊥) → openCall w c f .words ≡ w
-refused-open w c f = open-cases w c f (λ r. (r .number ≡ 0 → ⊥) → r .words ≡ w) (λ v h. refl) (λ v n h. refl) (λ v l h. absurd (h refl))
+pub refused-open : (w : List ℕ) (t : Terms) → (openCall w t .number ≡ 0 → ⊥) → openCall w t .words ≡ w
+refused-open w t = open-cases w t (λ r. (r .number ≡ 0 → ⊥) → r .words ≡ w) (λ v h. refl) (λ o v n h. refl) (λ o v l h. absurd (h refl))
 
 pub refused-call : (w scratch : List ℕ) (a : Act) → (outcome w scratch a .answer .number ≡ 0 → ⊥)
     → (outcome w scratch a .words ≡ w) × (outcome w scratch a .room ≡ roomOf a)

@@ -10,49 +10,55 @@ use native.Mathlib.Nat.{zero-add}
 use native.Mathlib.Omega.{arith}
 use lib.ListN.{length, getD, take, length-append, List·getD-append, length-map, length-replicate}
 use lib.Seq.{getD-append-add, take-at, getD-take, ext-getD}
-use Rattle.rules.specs.Table.{top}
 use Rattle.rules.proofs.Tests.{lt?}
 use Rattle.rules.proofs.States.{state-of}
+use Rattle.model.specs.Shape.{Shape, segmentSize, entries, topOf}
 use Rattle.model.specs.Model.{Store, Card, Fault, cards, size}
-use Rattle.model.specs.Layout.{part, cardWidth, faultWidth, cardCell, faultCell, freeCell, cardChains, faultChains, cardsAt, faultsAt, lengthFor, header, directory, segments, front, encode}
+use Rattle.model.specs.Layout.{part, cardWidth, faultWidth, cardCell, faultCell, freeCell, cardChains, faultChains, cardsAt, faultsAt, lengthFor, directoryAt, header, directory, segments, front, encode}
 use Rattle.model.proofs.Part.{Held, held-same, held-move, Wide, part-length, part-held}
+use Rattle.model.proofs.Tables.{length-table}
+use Rattle.model.proofs.Shapes.{width-nine}
 use Rattle.model.proofs.Fair.{Fair}
 
 -- the words w stand for the store s
 pub record Rep (w : List ℕ) (s : Store) : Type 0 where
   pub fair : Fair s
-  pub long : length w ≡ lengthFor (s .limit) (s .faultLimit)
-  pub front : take cardsAt w ≡ front s
-  pub cards : Held w cardsAt cardWidth (cardChains s)
-  pub faults : Held w (faultsAt (s .limit)) faultWidth (faultChains s)
+  pub long : length w ≡ lengthFor (s .shape)
+  pub front : take (cardsAt (s .shape)) w ≡ front s
+  pub cards : Held w (cardsAt (s .shape)) (cardWidth (s .shape)) (cardChains s)
+  pub faults : Held w (faultsAt (s .shape)) faultWidth (faultChains s)
 
-pub size-top : (s : Store) → Fair s → size s ≤ top
-size-top s r = state-of (s .maxp) (s .p) (r .state) .room
+pub size-top : (s : Store) → Fair s → size s ≤ topOf (s .shape)
+size-top s r = state-of (topOf (s .shape)) (s .maxp) (s .p) (r .state) .room
 
 -- all cells have the words of their width
+
+-- a width is one more than the words behind the next one
+width-some : (sh : Shape) → suc (cardWidth sh - 1) ≡ cardWidth sh
+width-some sh = omega (arith, width-nine sh)
 
 wide-free : (m : ℕ) (l : List ℕ) → Wide m (map (freeCell (suc m)) l)
 unfolding freeCell
 wide-free m [] = tt
 wide-free m (x ∷ xs) = (length-replicate (suc m - 1) 0 ∙ omega arith, wide-free m xs)
 
-wide-cards : (l : List Card) → Wide (cardWidth - 1) (map cardCell l)
-unfolding cardCell
-wide-cards [] = tt
-wide-cards (x ∷ xs) = (refl, wide-cards xs)
+wide-cards : (sh : Shape) (l : List Card) → Wide (cardWidth sh - 1) (map cardCell l)
+unfolding cardCell cardWidth
+wide-cards sh [] = tt
+wide-cards sh (x ∷ xs) = (refl, wide-cards sh xs)
 
 wide-faults : (l : List Fault) → Wide (faultWidth - 1) (map faultCell l)
 unfolding faultCell
 wide-faults [] = tt
 wide-faults (x ∷ xs) = (refl, wide-faults xs)
 
-wide-card-chains : (s : Store) (j : ℕ) → Wide (cardWidth - 1) (getD (cardChains s) j [])
-wide-card-chains s zero = wide-free (cardWidth - 1) (s .free)
+wide-card-chains : (s : Store) (j : ℕ) → Wide (cardWidth (s .shape) - 1) (getD (cardChains s) j [])
+wide-card-chains s zero = subst (λ (n : ℕ). Wide (cardWidth (s .shape) - 1) (map (freeCell n) (s .free))) (width-some (s .shape)) (wide-free (cardWidth (s .shape) - 1) (s .free))
 wide-card-chains s (suc j) = go (s .buckets) j
   where
-    go : (bs : List (List Card)) (j : ℕ) → Wide (cardWidth - 1) (getD (map (map cardCell) bs) j [])
+    go : (bs : List (List Card)) (j : ℕ) → Wide (cardWidth (s .shape) - 1) (getD (map (map cardCell) bs) j [])
     go [] j = tt
-    go (b ∷ bs) zero = wide-cards b
+    go (b ∷ bs) zero = wide-cards (s .shape) b
     go (b ∷ bs) (suc j) = go bs j
 
 wide-fault-chains : (s : Store) (j : ℕ) → Wide (faultWidth - 1) (getD (faultChains s) j [])
@@ -64,13 +70,19 @@ wide-fault-chains s (suc j) = go (cards s) j
     go (c ∷ cs) zero = wide-faults (c .faults)
     go (c ∷ cs) (suc j) = go cs j
 
-pub segments-length : (s : Store) → Fair s → length (segments s) ≡ top
+pub segments-length : (s : Store) → Fair s → length (segments s) ≡ topOf (s .shape)
 unfolding segments
 segments-length s r = simp (length-append, length-map, length-replicate) (omega (arith, r .number, size-top s r))
 
-front-length : (s : Store) → Fair s → length (front s) ≡ cardsAt
-unfolding front header directory cardsAt
-front-length s r = omega (arith, segments-length s r)
+pub directory-length : (s : Store) → length (directory s) ≡ entries (s .shape)
+unfolding directory
+directory-length s = length-table _ 0 (entries (s .shape))
+
+front-length : (s : Store) → Fair s → length (front s) ≡ cardsAt (s .shape)
+unfolding front header cardsAt
+front-length s r =
+    length-append (header s) (directory s ++ segments s)
+    ∙ omega (arith, length-append (directory s) (segments s), segments-length s r, directory-length s)
 
 -- the encoding stands for the store
 pub rep-encode : (s : Store) → Fair s → Rep (encode s) s
@@ -80,51 +92,56 @@ rep-encode s r =
     record {
       fair = r;
       long = simp length-append (omega (arith, cards-long, faults-long));
-      front = take-at (front s) (C ++ F) cardsAt h;
-      cards = held-move (encode s) C cardsAt 0 cardWidth (s .limit) (cardChains s) (r .cells) (λ m b. in-cards m (omega (arith, cards-long))) (part-held (cardWidth - 1) (s .limit) (cardChains s) (r .cells) (wide-card-chains s));
-      faults = held-move (encode s) F (faultsAt (s .limit)) 0 faultWidth (s .faultLimit) (faultChains s) (r .faultCells) (λ m b. in-faults m) (part-held (faultWidth - 1) (s .faultLimit) (faultChains s) (r .faultCells) (wide-fault-chains s));
+      front = take-at (front s) (C ++ F) (cardsAt (s .shape)) h;
+      cards = held-move (encode s) C (cardsAt (s .shape)) 0 (cardWidth (s .shape)) (s .shape .limit) (cardChains s) (r .cells) (λ m b. in-cards m (omega (arith, cards-long))) (subst (λ (n : ℕ). Held C 0 n (cardChains s)) (width-some (s .shape)) (part-held (cardWidth (s .shape) - 1) (s .shape .limit) (cardChains s) (r .cells) (wide-card-chains s)));
+      faults = held-move (encode s) F (faultsAt (s .shape)) 0 faultWidth (s .shape .faultLimit) (faultChains s) (r .faultCells) (λ m b. in-faults m) (part-held (faultWidth - 1) (s .shape .faultLimit) (faultChains s) (r .faultCells) (wide-fault-chains s));
     }
   where
     C : List ℕ
-    C = part (cardChains s) (s .limit)
+    C = part (cardChains s) (s .shape .limit)
 
     F : List ℕ
-    F = part (faultChains s) (s .faultLimit)
+    F = part (faultChains s) (s .shape .faultLimit)
 
-    cards-long : length C ≡ cardWidth * s .limit
-    cards-long = part-length (cardWidth - 1) (s .limit) (cardChains s) (r .cells) (wide-card-chains s)
+    cards-long : length C ≡ cardWidth (s .shape) * s .shape .limit
+    cards-long = subst (λ (n : ℕ). length C ≡ n * s .shape .limit) (width-some (s .shape)) (part-length (cardWidth (s .shape) - 1) (s .shape .limit) (cardChains s) (r .cells) (wide-card-chains s))
 
-    faults-long : length F ≡ faultWidth * s .faultLimit
-    faults-long = part-length (faultWidth - 1) (s .faultLimit) (faultChains s) (r .faultCells) (wide-fault-chains s)
+    faults-long : length F ≡ faultWidth * s .shape .faultLimit
+    faults-long = part-length (faultWidth - 1) (s .shape .faultLimit) (faultChains s) (r .faultCells) (wide-fault-chains s)
 
-    in-cards : (m : ℕ) → m < length C → getD (front s ++ (C ++ F)) (cardsAt + m) 0 ≡ getD C (0 + m) 0
+    in-cards : (m : ℕ) → m < length C → getD (front s ++ (C ++ F)) (cardsAt (s .shape) + m) 0 ≡ getD C (0 + m) 0
     in-cards m b =
         subst (λ (n : ℕ). getD (front s ++ (C ++ F)) (n + m) 0 ≡ getD C (0 + m) 0) (front-length s r)
         (getD-append-add (front s) (C ++ F) m 0 ∙ List·getD-append C F 0 m b ∙ ap (λ (n : ℕ). getD C n 0) (sym (zero-add m)))
 
-    in-faults : (m : ℕ) → getD (front s ++ (C ++ F)) (cardsAt + cardWidth * s .limit + m) 0 ≡ getD F (0 + m) 0
+    in-faults : (m : ℕ) → getD (front s ++ (C ++ F)) (cardsAt (s .shape) + cardWidth (s .shape) * s .shape .limit + m) 0 ≡ getD F (0 + m) 0
     in-faults m =
-        let e : cardsAt + cardWidth * s .limit + m ≡ length (front s) + (length C + m) = omega (arith, front-length s r, cards-long) in
+        let e : cardsAt (s .shape) + cardWidth (s .shape) * s .shape .limit + m ≡ length (front s) + (length C + m) = omega (arith, front-length s r, cards-long) in
         ap (λ (n : ℕ). getD (front s ++ (C ++ F)) n 0) e
         ∙ getD-append-add (front s) (C ++ F) (length C + m) 0 ∙ getD-append-add C F m 0 ∙ ap (λ (n : ℕ). getD F n 0) (sym (zero-add m))
 
 -- the words before the cells
-pub rep-front : {w : List ℕ} {s : Store} → Rep w s → (i : ℕ) → i < cardsAt → getD w i 0 ≡ getD (front s) i 0
-rep-front {w} {s} r i h = sym (getD-take cardsAt w i 0 h) ∙ ap (λ (l : List ℕ). getD l i 0) (r .front)
+pub rep-front : {w : List ℕ} {s : Store} → Rep w s → (i : ℕ) → i < (cardsAt (s .shape)) → getD w i 0 ≡ getD (front s) i 0
+rep-front {w} {s} r i h = sym (getD-take (cardsAt (s .shape)) w i 0 h) ∙ ap (λ (l : List ℕ). getD l i 0) (r .front)
+
+-- the words of the header
+pub rep-head : {w : List ℕ} {s : Store} → Rep w s → (i : ℕ) → i < directoryAt → getD w i 0 ≡ getD (front s) i 0
+unfolding cardsAt
+rep-head r i h = rep-front r i (omega arith)
 
 -- no other words stand for the store
 pub rep-one : (w v : List ℕ) (s : Store) → Rep w s → Rep v s → w ≡ v
 unfolding lengthFor faultsAt
 rep-one w v s p q = ext-getD 0 w v (p .long ∙ sym (q .long)) at
   where
-    rest : (i : ℕ) → cardsAt ≤ i → i < length w → (i < cardsAt + cardWidth * s .limit) ⊎ (cardsAt + cardWidth * s .limit ≤ i) → getD w i 0 ≡ getD v i 0
-    rest i a b (inl c) = held-same w v cardsAt cardWidth (s .limit) (cardChains s) (omega arith) (p .fair .cells) (p .cards) (q .cards) i a c
+    rest : (i : ℕ) → (cardsAt (s .shape)) ≤ i → i < length w → (i < (cardsAt (s .shape)) + cardWidth (s .shape) * s .shape .limit) ⊎ (cardsAt (s .shape) + cardWidth (s .shape) * s .shape .limit ≤ i) → getD w i 0 ≡ getD v i 0
+    rest i a b (inl c) = held-same w v (cardsAt (s .shape)) (cardWidth (s .shape)) (s .shape .limit) (cardChains s) (omega (arith, width-nine (s .shape))) (p .fair .cells) (p .cards) (q .cards) i a c
     rest i a b (inr c) =
-        held-same w v (cardsAt + cardWidth * s .limit) faultWidth (s .faultLimit) (faultChains s) (omega arith) (p .fair .faultCells) (p .faults) (q .faults) i c (omega (arith, p .long))
+        held-same w v (cardsAt (s .shape) + cardWidth (s .shape) * s .shape .limit) faultWidth (s .shape .faultLimit) (faultChains s) (omega arith) (p .fair .faultCells) (p .faults) (q .faults) i c (omega (arith, p .long))
 
     at : (i : ℕ) → i < length w → getD w i 0 ≡ getD v i 0
     at i b =
-        ⊎-elim (λ (h : i < cardsAt). rep-front p i h ∙ sym (rep-front q i h)) (λ (h : cardsAt ≤ i). rest i h b (lt? i (cardsAt + cardWidth * s .limit))) (lt? i cardsAt)
+        ⊎-elim (λ (h : i < (cardsAt (s .shape))). rep-front p i h ∙ sym (rep-front q i h)) (λ (h : (cardsAt (s .shape)) ≤ i). rest i h b (lt? i (cardsAt (s .shape) + cardWidth (s .shape) * s .shape .limit))) (lt? i (cardsAt (s .shape)))
 
 -- so the words are the encoding
 pub rep-words : (w : List ℕ) (s : Store) → Rep w s → w ≡ encode s

@@ -10,12 +10,13 @@ use lib.ListN.{getD}
 use Rattle.rules.specs.Table.{stateOk}
 use Rattle.rules.proofs.Tests.{both, all-of}
 use Rattle.model.specs.Lists.{same}
+use Rattle.model.specs.Shape.{topOf}
 use Rattle.model.specs.Model.{Store}
-use Rattle.model.specs.Layout.{cardsAt, header, front, encode, decode, limitsOk, loadOk, fair, good, soundIf, sound}
+use Rattle.model.specs.Layout.{cardsAt, header, front, encode, decode, shapeOk, shapeOf, loadOk, fair, good, soundIf, sound}
 use Rattle.model.proofs.Lists.{same-is}
 use Rattle.model.proofs.Fair.{Good, fair-is, is-fair, load-is, is-load}
-use Rattle.model.proofs.Rep.{Rep, rep-front, rep-encode, rep-words}
-use Rattle.model.proofs.Decode.{rep-decode}
+use Rattle.model.proofs.Rep.{Rep, rep-head, rep-encode, rep-words}
+use Rattle.model.proofs.Decode.{shape-at, rep-decode}
 
 -- a store is known by its words
 pub rep-store : (w : List ℕ) (s t : Store) → Rep w s → Rep w t → s ≡ t
@@ -24,14 +25,14 @@ rep-store w s t p q = sym (rep-decode w s p) ∙ rep-decode w t q
 pub is-sound : (w : List ℕ) (s : Store) → Rep w s → loadOk s ≡ true → sound w ≡ true
 unfolding sound good front header cardsAt
 is-sound w s r l =
-    let e : (stateOk (getD w 3 0) (getD w 4 0) && limitsOk (getD w 1 0) (getD w 2 0)) ≡ true =
-    (λ i. stateOk (rep-front r 3 (lit< tt) i) (rep-front r 4 (lit< tt) i) && limitsOk (rep-front r 1 (lit< tt) i) (rep-front r 2 (lit< tt) i)) ∙ all-of (r .fair .state) (r .fair .limits) in
+    let e : (stateOk (topOf (shapeOf w)) (getD w 3 0) (getD w 4 0) && shapeOk (shapeOf w)) ≡ true =
+    (λ i. stateOk (topOf (shape-at w s r i)) (rep-head r 3 (lit< tt) i) (rep-head r 4 (lit< tt) i) && shapeOk (shape-at w s r i)) ∙ all-of (r .fair .state) (r .fair .shape) in
     ap (λ (t : Bool). soundIf t w) e
     ∙ rw (rep-decode w s r) (all-of (all-of l (is-fair s (r .fair))) (same-is (encode s) w .1 (sym (rep-words w s r))))
 
 pub sound-is : (w : List ℕ) → sound w ≡ true → Rep w (decode w) × (loadOk (decode w) ≡ true)
 unfolding sound good
-sound-is w e = go (stateOk (getD w 3 0) (getD w 4 0) && limitsOk (getD w 1 0) (getD w 2 0)) e
+sound-is w e = go (stateOk (topOf (shapeOf w)) (getD w 3 0) (getD w 4 0) && shapeOk (shapeOf w)) e
   where
     go : (t : Bool) → soundIf t w ≡ true → Rep w (decode w) × (loadOk (decode w) ≡ true)
     go true e =
@@ -47,7 +48,7 @@ good-sound s g = is-sound (encode s) s (rep-encode s (g .fair)) (is-load s g)
 pub sound-good : (w : List ℕ) → sound w ≡ true → Good (decode w) × (encode (decode w) ≡ w)
 sound-good w e =
     let h = sound-is w e in
-    let l = load-is (decode w) (h .1) in
+    let l = load-is (decode w) (h .0 .fair) (h .1) in
     (record { fair = h .0 .fair; high = l .0; low = l .1 }, sym (rep-words w (decode w) (h .0)))
 
 -- and a store that stays has the same words

@@ -40,12 +40,12 @@ module _ (s : Store) (r : Fair s) (y : List ℕ) where
   unfolding goodCard
   new-good v = rw (v, eq-eqb (addressIn s y) (addressIn s y) refl)
 
-  pub placed-fair : serialOk y ≡ true → look s y ≡ [] → held s < s .limit → Fair (placed s y)
+  pub placed-fair : serialOk y ≡ true → look s y ≡ [] → held s < s .shape .limit → Fair (placed s y)
   unfolding placed
   placed-fair v new room =
       let free : 0 < length (s .free) = omega (arith, r .cells .count, card-count s) in
       record {
-        limits = r .limits;
+        shape = r .shape;
         state = r .state;
         number = length-set (s .buckets) (addressIn s y) _ ∙ r .number;
         cells = cells-moved s (placed s y) (λ w. omega (arith, placed-total (λ c. w (c .at)), total-first w (s .free) free)) (r .cells);
@@ -94,12 +94,12 @@ module _ (s : Store) (r : Fair s) (y : List ℕ) (day code : ℕ) where
       rw (map-append (λ (f : Fault). f .at) (c .faults) (newFault s day code ∷ []))
       (omega (arith, total-append w (faultCellsOf (c .faults)) (getD (s .freeFaults) 0 0 ∷ [])))
 
-  pub filed-fair : validFault day code ≡ true → length (look s y) ≡ 1 → faultsHeld s < s .faultLimit → Fair (filed s y day code)
+  pub filed-fair : validFault day code ≡ true → length (look s y) ≡ 1 → faultsHeld s < s .shape .faultLimit → Fair (filed s y day code)
   unfolding filed
   filed-fair v one room =
       let free : 0 < length (s .freeFaults) = omega (arith, r .faultCells .count, fault-count s) in
       record {
-        limits = r .limits;
+        shape = r .shape;
         state = r .state;
         number = length-set (s .buckets) (addressIn s y) _ ∙ r .number;
         cells = cells-moved s (filed s y day code) (λ w. omega (arith, filed-total (λ c. w (c .at)) 0 (λ c. omega arith) one)) (r .cells);
@@ -142,7 +142,7 @@ module _ (s : Store) (r : Fair s) (y : List ℕ) where
   unfolding removed
   removed-fair =
       record {
-        limits = r .limits;
+        shape = r .shape;
         state = r .state;
         number = length-set (s .buckets) (addressIn s y) _ ∙ r .number;
         cells = cells-moved s (removed s y) (λ w. omega (arith, removed-total (λ c. w (c .at)), cell-weight w (look s y) (s .free))) (r .cells);

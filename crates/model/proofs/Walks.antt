@@ -117,53 +117,41 @@ led-follow next zero h (x ∷ l) r p b = absurd (omega arith)
 led-follow next (suc fuel) h (x ∷ l) r p b =
     rw (ne-eqb h 0 (omega (arith, r .0, p .0)), r .0) (ap (λ (l : List ℕ). x ∷ l) (led-follow next fuel (next x) l (r .1) (p .1) (omega arith)))
 
--- cell i has the m words that follow the next word of i
+-- cell i has the words of its width that follow the next word of i
 abbrev pub Reads : Memory → ℕ → (ℕ → Cell) → ℕ → Type 0
-Reads word m cell i = map (word i) (from 1 m) ≡ cell i .words
+Reads word width cell i = (k : ℕ) → suc k < width → word i (suc k) ≡ getD (cell i .words) k 0
 
-module _ (word : Memory) (m : ℕ) (cell : ℕ → Cell) (numbered : (i : ℕ) → cell i .at ≡ i) where
-  reads-at : (i k : ℕ) → Reads word m cell i → k < m → word i (suc k) ≡ getD (cell i .words) k 0
-  reads-at i k r h = ap (word i) (omega arith) ∙ sym (table-at (word i) 1 m 0 k h) ∙ ap (λ (l : List ℕ). getD l k 0) r
-
-  pub led-stand : (h : ℕ) (l : List ℕ) → Leads (λ i. word i 0) h l → Every (Reads word m cell) l
-      → Stand word (suc m) (chained 0 (map cell l)) × (h ≡ headOr 0 (map cell l))
+module _ (word : Memory) (width : ℕ) (cell : ℕ → Cell) (numbered : (i : ℕ) → cell i .at ≡ i) where
+  pub led-stand : (h : ℕ) (l : List ℕ) → Leads (λ i. word i 0) h l → Every (Reads word width cell) l
+      → Stand word width (chained 0 (map cell l)) × (h ≡ headOr 0 (map cell l))
   led-stand h [] r f = (tt, r)
   led-stand h (x ∷ xs) r f =
       let q = led-stand (word x 0) xs (r .1) (f .1) in
       ((λ k l. at k l (q .1), q .0), r .0 ∙ sym (numbered x))
     where
-      at : (k : ℕ) → k < suc m → word x 0 ≡ headOr 0 (map cell xs) → word (cell x .at) k ≡ getD (headOr 0 (map cell xs) ∷ cell x .words) k 0
+      at : (k : ℕ) → k < width → word x 0 ≡ headOr 0 (map cell xs) → word (cell x .at) k ≡ getD (headOr 0 (map cell xs) ∷ cell x .words) k 0
       at zero l e = ap (λ (i : ℕ). word i 0) (numbered x) ∙ e
-      at (suc k) l e = ap (λ (i : ℕ). word i (suc k)) (numbered x) ∙ reads-at x k (f .0) (omega arith)
+      at (suc k) l e = ap (λ (i : ℕ). word i (suc k)) (numbered x) ∙ f .0 k l
 
-  pub stand-led : ((i : ℕ) → length (cell i .words) ≡ m) → (l : List ℕ) → Stand word (suc m) (chained 0 (map cell l))
-      → Leads (λ i. word i 0) (headOr 0 (map cell l)) l × Every (Reads word m cell) l
-  stand-led wide [] q = (refl, tt)
-  stand-led wide (x ∷ xs) q =
-      let t = stand-led wide xs (q .1) in
-      ((numbered x, subst (λ (h : ℕ). Leads (λ i. word i 0) h xs) (sym (at 0 (omega arith))) (t .0)), (here, t .1))
+  pub stand-led : 0 < width → (l : List ℕ) → Stand word width (chained 0 (map cell l)) → Leads (λ i. word i 0) (headOr 0 (map cell l)) l × Every (Reads word width cell) l
+  stand-led some [] q = (refl, tt)
+  stand-led some (x ∷ xs) q =
+      let t = stand-led some xs (q .1) in
+      ((numbered x, subst (λ (h : ℕ). Leads (λ i. word i 0) h xs) (sym (at 0 some)) (t .0)), (λ k l. at (suc k) l, t .1))
     where
-      at : (k : ℕ) → k < suc m → word x k ≡ getD (headOr 0 (map cell xs) ∷ cell x .words) k 0
+      at : (k : ℕ) → k < width → word x k ≡ getD (headOr 0 (map cell xs) ∷ cell x .words) k 0
       at k l = ap (λ (i : ℕ). word i k) (sym (numbered x)) ∙ q .0 k l
 
-      here : Reads word m cell x
-      here = table-from (word x) 1 m 0 (cell x .words) (wide x) (λ k l. ap (word x) (omega arith) ∙ at (suc k) (omega arith))
-
 -- a free cell has zero words
-pub reads-zero : (word : Memory) (m i : ℕ) → Reads word m (freeCell (suc m)) i → (k : ℕ) → 1 ≤ k → k < suc m → word i k ≡ 0
+pub reads-zero : (word : Memory) (width i : ℕ) → Reads word width (freeCell width) i → (k : ℕ) → 1 ≤ k → k < width → word i k ≡ 0
 unfolding freeCell
-reads-zero word m i r k a b =
-    let e : 1 + (k - 1) ≡ k = omega arith in
-    let z : suc m - 1 ≡ m = omega arith in
-    sym (table-at (word i) 1 m 0 (k - 1) (omega arith) ∙ ap (word i) e)
-    ∙ ap (λ (l : List ℕ). getD l (k - 1) 0) (r ∙ ap (λ (n : ℕ). replicate n 0) z) ∙ getD-replicate m (k - 1) 0 0 (omega arith)
+reads-zero word width i r k a b =
+    let e : suc (k - 1) ≡ k = omega arith in
+    subst (λ (n : ℕ). word i n ≡ 0) e (r (k - 1) (omega arith) ∙ getD-replicate (width - 1) (k - 1) 0 0 (omega arith))
 
-pub zero-reads : (word : Memory) (m i : ℕ) → ((k : ℕ) → 1 ≤ k → k < suc m → word i k ≡ 0) → Reads word m (freeCell (suc m)) i
+pub zero-reads : (word : Memory) (width i : ℕ) → ((k : ℕ) → 1 ≤ k → k < width → word i k ≡ 0) → Reads word width (freeCell width) i
 unfolding freeCell
-zero-reads word m i f =
-    let z : suc m - 1 ≡ m = omega arith in
-    table-from (word i) 1 m 0 (replicate m 0) (length-replicate m 0) (λ k h. f (1 + k) (omega arith) (omega arith) ∙ sym (getD-replicate m k 0 0 h))
-    ∙ ap (λ (n : ℕ). replicate n 0) (sym z)
+zero-reads word width i f k h = f (suc k) (omega arith) h ∙ sym (getD-replicate (width - 1) k 0 0 (omega arith))
 
 -- exactly once
 

@@ -4,6 +4,7 @@ use mathlib.Core.List.{List, [], _∷_, _++_}
 use mathlib.Core.Bool.{Bool, true, false, not, cond}
 use lib.Dec.{ltb, eqb}
 use lib.ListN.{length, take, drop, replicate}
+use Rattle.model.specs.Shape.{Shape}
 use Rattle.model.specs.Serial.{validSerial, validFault}
 use Rattle.model.specs.Model.{Fault, Store, held, faultsHeld, chainFor, found, comparisons, placed, removed, splitScan, contractScan, fresh, entered, filed, historyIn, withdrawn}
 use Rattle.model.specs.Layout.{limitsOk, lengthFor, encode, decode, sound}
@@ -62,7 +63,7 @@ enterStep s bytes n =
     let k = comparisons serial chain in
     cond (not (validSerial bytes n)) (stays (refused 4) s [])
     (cond (eqb (length (found serial chain)) 1) (stays (gives 6 k 0 0) s [])
-    (cond (eqb (held s) (s .limit)) (stays (gives 8 k 0 0) s [])
+    (cond (eqb (held s) (s .shape .limit)) (stays (gives 8 k 0 0) s [])
     (stays (gives 0 k (splitScan (placed s serial)) 0) (entered s serial) [])))
 
 unfoldable pub fileStep : Store → List ℕ → ℕ → ℕ → ℕ → Step
@@ -73,7 +74,7 @@ fileStep s bytes n day code =
     cond (not (validSerial bytes n)) (stays (refused 4) s [])
     (cond (not (validFault day code)) (stays (refused 5) s [])
     (cond (eqb (length (found serial chain)) 0) (stays (gives 7 k 0 0) s [])
-    (cond (eqb (faultsHeld s) (s .faultLimit)) (stays (gives 9 k 0 0) s [])
+    (cond (eqb (faultsHeld s) (s .shape .faultLimit)) (stays (gives 9 k 0 0) s [])
     (stays (gives 0 k 0 (length (historyIn s serial) + 1)) (filed s serial day code) []))))
 
 unfoldable pub showStep : Store → List ℕ → ℕ → List ℕ → Step
@@ -124,13 +125,21 @@ showCall w scratch bytes n room = call (λ s. showStep s bytes n room) w scratch
 abbrev pub withdrawCall : List ℕ → List ℕ → List ℕ → ℕ → List ℕ → Outcome
 withdrawCall w scratch bytes n room = call (λ s. withdrawStep s bytes n room) w scratch room
 
+-- what Open is asked for, and the shape that it makes of it
+pub record Terms : Type 0 where
+  pub cards : ℕ
+  pub faults : ℕ
+
+unfoldable pub shapeFor : Terms → Shape
+shapeFor t = record { format = 1; limit = t .cards; faultLimit = t .faults; upper = 4; lower = 2 }
+
 -- Open tests 1, then 2
 pub record Opened : Type 0 where
   pub number : ℕ
   pub words : List ℕ
 
-unfoldable pub openCall : List ℕ → ℕ → ℕ → Opened
-openCall w c f =
-    cond (not (limitsOk c f)) (record { number = 1; words = w })
-    (cond (not (eqb (length w) (lengthFor c f))) (record { number = 2; words = w })
-    (record { number = 0; words = encode (fresh c f) }))
+unfoldable pub openCall : List ℕ → Terms → Opened
+openCall w t =
+    cond (not (limitsOk (t .cards) (t .faults))) (record { number = 1; words = w })
+    (cond (not (eqb (length w) (lengthFor (shapeFor t)))) (record { number = 2; words = w })
+    (record { number = 0; words = encode (fresh (shapeFor t)) }))

@@ -6,14 +6,15 @@ use mathlib.Core.Bool.{Bool, true, false, _&&_, _||_, cond}
 use lib.Dec.{leb, ltb, eqb}
 use lib.ListN.{length, take, getD, replicate}
 use Rattle.rules.specs.Code.{codeOf}
-use Rattle.rules.specs.Table.{least, top, upper, lower, stateOk, addressOf}
+use Rattle.rules.specs.Table.{least, stateOk, addressOf}
 use Rattle.model.specs.Lists.{between, all, same, join, from, distinct}
+use Rattle.model.specs.Shape.{Shape, segmentSize, entries, topOf}
 use Rattle.model.specs.Serial.{serialOk, validFault}
 use Rattle.model.specs.Model.{Fault, Card, Store, cards, held, faultsHeld, size, bucket, cellsOf, faultCellsOf}
 
 -- counts and offsets
 
--- words 0 to 2 of the header: format 1, C, F
+-- words 0 to 2 of the header: format, C, F
 abbrev pub formatAt : ℕ
 formatAt = 0
 
@@ -22,9 +23,6 @@ limitAt = 1
 
 abbrev pub faultLimitAt : ℕ
 faultLimitAt = 2
-
-abbrev pub format : ℕ
-format = 1
 
 -- words 3 to 6: maxp, p, cards held, faults held
 abbrev pub maxpAt : ℕ
@@ -62,12 +60,12 @@ faultsOffsetAt = 12
 abbrev pub wholeLengthAt : ℕ
 wholeLengthAt = 13
 
--- words 14 and 15: 0
-abbrev pub firstZeroAt : ℕ
-firstZeroAt = 14
+-- words 14 and 15: 0, kept for the load bounds and the spelling of serials
+abbrev pub boundsAt : ℕ
+boundsAt = 14
 
-abbrev pub lastZeroAt : ℕ
-lastZeroAt = 15
+abbrev pub ruleAt : ℕ
+ruleAt = 15
 
 -- the highest card limit and fault limit
 abbrev pub mostCards : ℕ
@@ -76,32 +74,29 @@ mostCards = 1024
 abbrev pub mostFaults : ℕ
 mostFaults = 2048
 
--- where the directory and the segments begin, and the buckets of a segment
+-- where the directory and the segments begin
 abbrev pub directoryAt : ℕ
 directoryAt = 16
 
-abbrev pub segmentsAt : ℕ
-segmentsAt = 32
-
-abbrev pub segmentSize : ℕ
-segmentSize = 16
+abbrev pub segmentsAt : Shape → ℕ
+segmentsAt sh = directoryAt + entries sh
 
 -- the words of a card cell and of a fault cell, and where cell 1 of each begins
-abbrev pub cardWidth : ℕ
-cardWidth = 9
+unfoldable pub cardWidth : Shape → ℕ
+cardWidth sh = 9
 
 abbrev pub faultWidth : ℕ
 faultWidth = 3
 
-unfoldable pub cardsAt : ℕ
-cardsAt = segmentsAt + top
+unfoldable pub cardsAt : Shape → ℕ
+cardsAt sh = segmentsAt sh + topOf sh
 
-unfoldable pub faultsAt : ℕ → ℕ
-faultsAt c = cardsAt + cardWidth * c
+unfoldable pub faultsAt : Shape → ℕ
+faultsAt sh = cardsAt sh + cardWidth sh * sh .limit
 
 -- the whole length
-unfoldable pub lengthFor : ℕ → ℕ → ℕ
-lengthFor c f = faultsAt c + faultWidth * f
+unfoldable pub lengthFor : Shape → ℕ
+lengthFor sh = faultsAt sh + faultWidth * sh .faultLimit
 
 -- the words of a card cell: next, serial length, four words of serial from `toSerial` on, first fault, last fault, fault count
 abbrev pub toNext : ℕ
@@ -135,6 +130,31 @@ toCode = 2
 -- C is 1 to 1,024, F is 1 to 2,048
 unfoldable pub limitsOk : ℕ → ℕ → Bool
 limitsOk c f = between 1 mostCards c && between 1 mostFaults f
+
+-- the formats: format 1 means the bounds 4 and 2, and has no word for them
+unfoldable pub formatOk : Shape → Bool
+formatOk sh = eqb (sh .format) 1 && (eqb (sh .upper) 4 && eqb (sh .lower) 2)
+
+unfoldable pub boundsWord : Shape → ℕ
+boundsWord sh = 0
+
+unfoldable pub ruleWord : Shape → ℕ
+ruleWord sh = 0
+
+-- the shapes that there are
+unfoldable pub shapeOk : Shape → Bool
+shapeOk sh = formatOk sh && limitsOk (sh .limit) (sh .faultLimit)
+
+-- the shape that words tell
+unfoldable pub shapeOf : List ℕ → Shape
+shapeOf w =
+    record {
+      format = getD w formatAt 0;
+      limit = getD w limitAt 0;
+      faultLimit = getD w faultLimitAt 0;
+      upper = 4;
+      lower = 2;
+    }
 
 -- cells and chains
 
@@ -191,7 +211,7 @@ freeCell width i = record { at = i; words = replicate (width - 1) 0 }
 
 -- the chains of a part: the free one first, then the buckets; the free one first, then the histories
 abbrev pub cardChains : Store → List (List Cell)
-cardChains s = map (freeCell cardWidth) (s .free) ∷ map (map cardCell) (s .buckets)
+cardChains s = map (freeCell (cardWidth (s .shape))) (s .free) ∷ map (map cardCell) (s .buckets)
 
 abbrev pub faultChains : Store → List (List Cell)
 faultChains s = map (freeCell faultWidth) (s .freeFaults) ∷ map (λ c. map faultCell (c .faults)) (cards s)
@@ -206,23 +226,24 @@ part chains n = join (map (wordsOf (join (map (chained 0) chains))) (from 1 n))
 
 unfoldable pub header : Store → List ℕ
 header s =
-    format ∷ s .limit ∷ s .faultLimit ∷ s .maxp ∷ s .p ∷ held s ∷ faultsHeld s ∷ first (s .free) ∷ first (s .freeFaults)
-    ∷ directoryAt ∷ segmentsAt ∷ cardsAt ∷ faultsAt (s .limit) ∷ lengthFor (s .limit) (s .faultLimit) ∷ 0 ∷ 0 ∷ []
+    let sh = s .shape in
+    sh .format ∷ sh .limit ∷ sh .faultLimit ∷ s .maxp ∷ s .p ∷ held s ∷ faultsHeld s ∷ first (s .free) ∷ first (s .freeFaults)
+    ∷ directoryAt ∷ segmentsAt sh ∷ cardsAt sh ∷ faultsAt sh ∷ lengthFor sh ∷ boundsWord sh ∷ ruleWord sh ∷ []
 
 -- entry k is where segment k begins if it is in use, else 0
 unfoldable pub directory : Store → List ℕ
-directory s = map (λ k. cond (ltb (segmentSize * k) (size s)) (segmentsAt + segmentSize * k) 0) (from 0 (top / segmentSize))
+directory s = map (λ k. cond (ltb (segmentSize * k) (size s)) (segmentsAt (s .shape) + segmentSize * k) 0) (from 0 (entries (s .shape)))
 
 -- a word is the chain's first cell, or 0
 unfoldable pub segments : Store → List ℕ
-segments s = map (λ b. first (cellsOf b)) (s .buckets) ++ replicate (top - size s) 0
+segments s = map (λ b. first (cellsOf b)) (s .buckets) ++ replicate (topOf (s .shape) - size s) 0
 
 -- the words before the cells
 unfoldable pub front : Store → List ℕ
 front s = header s ++ (directory s ++ segments s)
 
 unfoldable pub encode : Store → List ℕ
-encode s = front s ++ (part (cardChains s) (s .limit) ++ part (faultChains s) (s .faultLimit))
+encode s = front s ++ (part (cardChains s) (s .shape .limit) ++ part (faultChains s) (s .shape .faultLimit))
 
 -- reading
 
@@ -237,39 +258,42 @@ follow (suc fuel) next c =
 unfoldable pub bytesOf : ℕ → List ℕ
 bytesOf w = w / 2 ^ 24 ∷ w / 2 ^ 16 % 256 ∷ w / 2 ^ 8 % 256 ∷ w % 256 ∷ []
 
-unfoldable pub cardWord : List ℕ → ℕ → ℕ → ℕ
-cardWord w i k = getD w (cellAt cardsAt cardWidth i k) 0
+unfoldable pub cardWord : Shape → List ℕ → ℕ → ℕ → ℕ
+cardWord sh w i k = getD w (cellAt (cardsAt sh) (cardWidth sh) i k) 0
 
-unfoldable pub faultWord : List ℕ → ℕ → ℕ → ℕ
-faultWord w i k = getD w (cellAt (faultsAt (getD w limitAt 0)) faultWidth i k) 0
+unfoldable pub faultWord : Shape → List ℕ → ℕ → ℕ → ℕ
+faultWord sh w i k = getD w (cellAt (faultsAt sh) faultWidth i k) 0
 
-unfoldable pub readFault : List ℕ → ℕ → Fault
-readFault w i = record { at = i; day = faultWord w i toDay; code = faultWord w i toCode }
+unfoldable pub readFault : Shape → List ℕ → ℕ → Fault
+readFault sh w i = record { at = i; day = faultWord sh w i toDay; code = faultWord sh w i toCode }
 
-unfoldable pub readCard : List ℕ → ℕ → Card
-readCard w i =
+unfoldable pub readCard : Shape → List ℕ → ℕ → Card
+readCard sh w i =
     record {
       at = i;
       serial =
-          take (cardWord w i toLength)
-          (bytesOf (cardWord w i toSerial) ++ (bytesOf (cardWord w i (toSerial + 1)) ++ (bytesOf (cardWord w i (toSerial + 2)) ++ bytesOf (cardWord w i (toSerial + 3)))));
-      faults = map (readFault w) (follow (getD w faultLimitAt 0) (λ k. faultWord w k toNext) (cardWord w i toFirst));
+          take (cardWord sh w i toLength)
+          (bytesOf (cardWord sh w i toSerial) ++ (bytesOf (cardWord sh w i (toSerial + 1)) ++ (bytesOf (cardWord sh w i (toSerial + 2)) ++ bytesOf (cardWord sh w i (toSerial + 3)))));
+      faults = map (readFault sh w) (follow (sh .faultLimit) (λ k. faultWord sh w k toNext) (cardWord sh w i toFirst));
     }
 
-unfoldable pub readChain : List ℕ → ℕ → List Card
-readChain w b = map (readCard w) (follow (getD w limitAt 0) (λ k. cardWord w k toNext) (getD w (segmentsAt + b) 0))
+unfoldable pub readChain : Shape → List ℕ → ℕ → List Card
+readChain sh w b = map (readCard sh w) (follow (sh .limit) (λ k. cardWord sh w k toNext) (getD w (segmentsAt sh + b) 0))
 
-unfoldable pub decode : List ℕ → Store
-decode w =
+-- the store of a shape that words hold
+unfoldable pub decodeAs : Shape → List ℕ → Store
+decodeAs sh w =
     record {
-      limit = getD w limitAt 0;
-      faultLimit = getD w faultLimitAt 0;
+      shape = sh;
       maxp = getD w maxpAt 0;
       p = getD w pAt 0;
-      buckets = map (readChain w) (from 0 (getD w maxpAt 0 + getD w pAt 0));
-      free = follow (getD w limitAt 0) (λ k. cardWord w k toNext) (getD w freeAt 0);
-      freeFaults = follow (getD w faultLimitAt 0) (λ k. faultWord w k toNext) (getD w freeFaultsAt 0);
+      buckets = map (readChain sh w) (from 0 (getD w maxpAt 0 + getD w pAt 0));
+      free = follow (sh .limit) (λ k. cardWord sh w k toNext) (getD w freeAt 0);
+      freeFaults = follow (sh .faultLimit) (λ k. faultWord sh w k toNext) (getD w freeFaultsAt 0);
     }
+
+abbrev pub decode : List ℕ → Store
+decode w = decodeAs (shapeOf w) w
 
 -- soundness
 
@@ -287,20 +311,22 @@ goodBuckets s = all (λ b. all (goodCard (s .maxp) (s .p) b) (bucket s b)) (from
 
 -- each card cell stands in exactly one bucket chain or the free chain, each fault cell in exactly one history or the free chain
 unfoldable pub cellsOk : Store → Bool
-cellsOk s = eachOnce (s .limit) (atsOf (join (cardChains s))) && eachOnce (s .faultLimit) (atsOf (join (faultChains s)))
+cellsOk s = eachOnce (s .shape .limit) (atsOf (join (cardChains s))) && eachOnce (s .shape .faultLimit) (atsOf (join (faultChains s)))
 
 -- no serial twice
 unfoldable pub serialsOk : Store → Bool
 serialsOk s = distinct same (map (λ c. c .serial) (cards s))
 
--- n ≤ 4B, and B = 16 or n ≥ 2B
+-- n ≤ UB or B is the most, and B = 16 or n ≥ LB
 unfoldable pub loadOk : Store → Bool
-loadOk s = leb (held s) (upper * size s) && (eqb (size s) least || leb (lower * size s) (held s))
+loadOk s =
+    (eqb (size s) (topOf (s .shape)) || leb (held s) (s .shape .upper * size s))
+    && (eqb (size s) least || leb (s .shape .lower * size s) (held s))
 
 -- all but the load, which an entry breaks until its split
 unfoldable pub fair : Store → Bool
 fair s =
-    limitsOk (s .limit) (s .faultLimit) && (stateOk (s .maxp) (s .p) && (eqb (length (s .buckets)) (size s)
+    shapeOk (s .shape) && (stateOk (topOf (s .shape)) (s .maxp) (s .p) && (eqb (length (s .buckets)) (size s)
     && (cellsOk s && (goodBuckets s && serialsOk s))))
 
 unfoldable pub good : Store → Bool
@@ -312,4 +338,4 @@ soundIf false w = false
 soundIf true w = good (decode w) && same (encode (decode w)) w
 
 unfoldable pub sound : List ℕ → Bool
-sound w = soundIf (stateOk (getD w maxpAt 0) (getD w pAt 0) && limitsOk (getD w limitAt 0) (getD w faultLimitAt 0)) w
+sound w = soundIf (stateOk (topOf (shapeOf w)) (getD w maxpAt 0) (getD w pAt 0) && shapeOk (shapeOf w)) w

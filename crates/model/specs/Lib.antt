@@ -2,6 +2,7 @@
 -- the plain list of cards, sequences of calls, the job.
 pub mod Lists
 pub mod Serial
+pub mod Shape
 pub mod Model
 pub mod Layout
 pub mod Meaning

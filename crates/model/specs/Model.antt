@@ -5,6 +5,7 @@ use mathlib.Core.Bool.{Bool, not, cond}
 use lib.Dec.{eqb}
 use lib.ListN.{length, take, drop, getD, set, replicate}
 use Rattle.model.specs.Lists.{same, keep, join, from}
+use Rattle.model.specs.Shape.{Shape, topOf}
 use Rattle.rules.specs.Code.{codeOf}
 use Rattle.rules.specs.Table.{least, addressOf, splits, contracts, highMaxp, highP, lowMaxp, lowP}
 
@@ -21,8 +22,7 @@ pub record Card : Type 0 where
   pub faults : List Fault
 
 pub record Store : Type 0 where
-  pub limit : ℕ
-  pub faultLimit : ℕ
+  pub shape : Shape
   pub maxp : ℕ
   pub p : ℕ
   pub buckets : List (List Card)
@@ -75,16 +75,16 @@ comparisons serial chain = length (before serial chain) + length (found serial c
 -- changes
 
 abbrev pub withBuckets : Store → ℕ → ℕ → List (List Card) → Store
-withBuckets s m q bs = record { limit = s .limit; faultLimit = s .faultLimit; maxp = m; p = q; buckets = bs; free = s .free; freeFaults = s .freeFaults }
+withBuckets s m q bs = record { shape = s .shape; maxp = m; p = q; buckets = bs; free = s .free; freeFaults = s .freeFaults }
 
 abbrev pub withChain : Store → ℕ → List Card → Store
 withChain s a chain = withBuckets s (s .maxp) (s .p) (set (s .buckets) a chain)
 
 abbrev pub withFree : Store → List ℕ → List ℕ → Store
-withFree s fc ff = record { limit = s .limit; faultLimit = s .faultLimit; maxp = s .maxp; p = s .p; buckets = s .buckets; free = fc; freeFaults = ff }
+withFree s fc ff = record { shape = s .shape; maxp = s .maxp; p = s .p; buckets = s .buckets; free = fc; freeFaults = ff }
 
-unfoldable pub fresh : ℕ → ℕ → Store
-fresh c f = record { limit = c; faultLimit = f; maxp = least; p = 0; buckets = replicate least []; free = from 1 c; freeFaults = from 1 f }
+unfoldable pub fresh : Shape → Store
+fresh sh = record { shape = sh; maxp = least; p = 0; buckets = replicate least []; free = from 1 (sh .limit); freeFaults = from 1 (sh .faultLimit) }
 
 -- growth by one bucket
 
@@ -97,16 +97,23 @@ moving s = keep (moves s) (bucket s (s .p))
 abbrev pub staying : Store → List Card
 staying s = keep (λ c. not (moves s c)) (bucket s (s .p))
 
+-- the store has too many cards for its buckets, or too few
+abbrev pub over : Store → Bool
+over s = splits (topOf (s .shape)) (s .shape .upper) (held s) (size s)
+
+abbrev pub under : Store → Bool
+under s = contracts (s .shape .lower) (held s) (size s)
+
 unfoldable pub split : Store → Store
 split s =
     withBuckets s (highMaxp (s .maxp) (s .p)) (highP (s .maxp) (s .p))
     (set (s .buckets) (s .p) (staying s) ++ (moving s ∷ []))
 
 unfoldable pub grown : Store → Store
-grown s = cond (splits (held s) (size s)) (split s) s
+grown s = cond (over s) (split s) s
 
 unfoldable pub splitScan : Store → ℕ
-splitScan s = cond (splits (held s) (size s)) (length (bucket s (s .p))) 0
+splitScan s = cond (over s) (length (bucket s (s .p))) 0
 
 -- contraction by one bucket
 
@@ -116,10 +123,10 @@ contract s =
     withBuckets s (lowMaxp (s .maxp) (s .p)) p (set (take (size s - 1) (s .buckets)) p (bucket s p ++ bucket s (size s - 1)))
 
 unfoldable pub shrunk : Store → Store
-shrunk s = cond (contracts (held s) (size s)) (contract s) s
+shrunk s = cond (under s) (contract s) s
 
 unfoldable pub contractScan : Store → ℕ
-contractScan s = cond (contracts (held s) (size s)) (length (bucket s (size s - 1))) 0
+contractScan s = cond (under s) (length (bucket s (size s - 1))) 0
 
 -- the four calls, where they are accepted
 

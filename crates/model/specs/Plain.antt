@@ -7,7 +7,9 @@ use lib.ListN.{length, take, drop}
 use Rattle.model.specs.Lists.{same, keep, total}
 use Rattle.model.specs.Serial.{validSerial, validFault}
 use Rattle.model.specs.Model.{Fault, Card, Store, cards}
+use Rattle.model.specs.Shape.{Shape}
 use Rattle.model.specs.Layout.{limitsOk, lengthFor}
+use Rattle.model.specs.Calls.{Terms, shapeFor}
 
 -- a fault without its cell
 pub record Slip : Type 0 where
@@ -43,10 +45,9 @@ abbrev pub slipPairs : List Slip → List ℕ
 slipPairs [] = []
 slipPairs (f ∷ fs) = f .day ∷ f .code ∷ slipPairs fs
 
--- the plain model: a list of entries with two limits, and the four operations on it
+-- the plain model: a list of entries with a shape, and the four operations on it
 pub record Book : Type 0 where
-  pub limit : ℕ
-  pub faultLimit : ℕ
+  pub shape : Shape
   pub entries : List Entry
 
 pub record Reply : Type 0 where
@@ -56,7 +57,7 @@ pub record Reply : Type 0 where
   pub book : Book
 
 abbrev pub withEntries : Book → List Entry → Book
-withEntries b es = record { limit = b .limit; faultLimit = b .faultLimit; entries = es }
+withEntries b es = record { shape = b .shape; entries = es }
 
 abbrev pub withSlip : Slip → Entry → Entry
 withSlip f e = record { serial = e .serial; slips = e .slips ++ (f ∷ []) }
@@ -64,19 +65,19 @@ withSlip f e = record { serial = e .serial; slips = e .slips ++ (f ∷ []) }
 abbrev pub says : ℕ → ℕ → Book → List ℕ → Reply
 says k m b room = record { number = k; faults = m; room = room; book = b }
 
--- the words of a store with the same limits are as many, so 2 is known from the limits alone
-unfoldable pub bookOpen : Book → ℕ → ℕ → Reply
-bookOpen b c f =
-    cond (not (limitsOk c f)) (says 1 0 b [])
-    (cond (not (eqb (lengthFor (b .limit) (b .faultLimit)) (lengthFor c f))) (says 2 0 b [])
-    (says 0 0 (record { limit = c; faultLimit = f; entries = [] }) []))
+-- the words of a store with the same shape are as many, so 2 is known from the shape alone
+unfoldable pub bookOpen : Book → Terms → Reply
+bookOpen b t =
+    cond (not (limitsOk (t .cards) (t .faults))) (says 1 0 b [])
+    (cond (not (eqb (lengthFor (b .shape)) (lengthFor (shapeFor t)))) (says 2 0 b [])
+    (says 0 0 (record { shape = shapeFor t; entries = [] }) []))
 
 unfoldable pub bookEnter : Book → List ℕ → ℕ → Reply
 bookEnter b bytes n =
     let y = take n bytes in
     cond (not (validSerial bytes n)) (says 4 0 b [])
     (cond (eqb (length (lookUp y (b .entries))) 1) (says 6 0 b [])
-    (cond (eqb (length (b .entries)) (b .limit)) (says 8 0 b [])
+    (cond (eqb (length (b .entries)) (b .shape .limit)) (says 8 0 b [])
     (says 0 0 (withEntries b (b .entries ++ (record { serial = y; slips = [] } ∷ []))) [])))
 
 unfoldable pub bookFile : Book → List ℕ → ℕ → ℕ → ℕ → Reply
@@ -85,7 +86,7 @@ bookFile b bytes n day code =
     cond (not (validSerial bytes n)) (says 4 0 b [])
     (cond (not (validFault day code)) (says 5 0 b [])
     (cond (eqb (length (lookUp y (b .entries))) 0) (says 7 0 b [])
-    (cond (eqb (slipsIn (b .entries)) (b .faultLimit)) (says 9 0 b [])
+    (cond (eqb (slipsIn (b .entries)) (b .shape .faultLimit)) (says 9 0 b [])
     (says 0 (length (slipsOf (lookUp y (b .entries))) + 1)
     (withEntries b (map (λ e. cond (same y (e .serial)) (withSlip (record { day = day; code = code }) e) e) (b .entries))) []))))
 

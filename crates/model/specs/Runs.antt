@@ -6,7 +6,7 @@ use lib.Dec.{ltb, eqb}
 use lib.ListN.{length, take}
 use Rattle.model.specs.Lists.{same}
 use Rattle.model.specs.Model.{Store}
-use Rattle.model.specs.Calls.{Outcome, Step, scratchNeed, enterStep, fileStep, showStep, withdrawStep, call, openCall}
+use Rattle.model.specs.Calls.{Outcome, Step, Terms, scratchNeed, enterStep, fileStep, showStep, withdrawStep, call, openCall}
 use Rattle.model.specs.Plain.{Slip, Book, Reply, says, bookOpen, bookEnter, bookFile, bookShow, bookWithdraw}
 
 -- what is asked of a store: sixteen bytes and a length, then day and code, or the room for pairs
@@ -35,9 +35,9 @@ consult b (file bytes n day code) = bookFile b bytes n day code
 consult b (show bytes n room) = bookShow b bytes n room
 consult b (withdraw bytes n room) = bookWithdraw b bytes n room
 
--- a call on a store: Open with its limits, or an act with the scratch it is lent
+-- a call on a store: Open with its terms, or an act with the scratch it is lent
 pub data Call : Type 0 where
-  opening : ℕ → ℕ → Call
+  opening : Terms → Call
   acting : List ℕ → Act → Call
 
 abbrev pub outcome : List ℕ → List ℕ → Act → Outcome
@@ -45,7 +45,7 @@ outcome w scratch act = call (λ s. perform s act) w scratch (roomOf act)
 
 -- the words after a call, and after each call of a list
 abbrev pub wordsAfter : List ℕ → Call → List ℕ
-wordsAfter w (opening c f) = openCall w c f .words
+wordsAfter w (opening t) = openCall w t .words
 wordsAfter w (acting scratch act) = outcome w scratch act .words
 
 abbrev pub run : List ℕ → List Call → List ℕ
@@ -58,7 +58,7 @@ pub data Event : Type 0 where
   answered : Act → ℕ → ℕ → Event
 
 abbrev pub eventsOf : List ℕ → Call → List Event
-eventsOf w (opening c f) = cond (eqb (openCall w c f .number) 0) (opened ∷ []) []
+eventsOf w (opening t) = cond (eqb (openCall w t .number) 0) (opened ∷ []) []
 eventsOf w (acting scratch act) = answered act (outcome w scratch act .answer .number) (outcome w scratch act .answer .faults) ∷ []
 
 abbrev pub events : List ℕ → List Call → List Event
@@ -104,7 +104,7 @@ pub record Tell : Type 0 where
   pub room : List ℕ
 
 abbrev pub tellOf : List ℕ → Call → Tell
-tellOf w (opening c f) = record { number = openCall w c f .number; faults = 0; room = [] }
+tellOf w (opening t) = record { number = openCall w t .number; faults = 0; room = [] }
 tellOf w (acting scratch act) =
     record { number = outcome w scratch act .answer .number; faults = outcome w scratch act .answer .faults; room = outcome w scratch act .room }
 
@@ -114,7 +114,7 @@ tells w (c ∷ cs) = tellOf w c ∷ tells (wordsAfter w c) cs
 
 -- the same asked of the plain list, which knows no scratch but refuses by 11 as the rules say
 abbrev pub bookCall : Book → Call → Reply
-bookCall b (opening c f) = bookOpen b c f
+bookCall b (opening t) = bookOpen b t
 bookCall b (acting scratch act) = cond (ltb (length scratch) scratchNeed) (says 11 0 b (roomOf act)) (consult b act)
 
 abbrev pub bookAfter : Book → List Call → Book

@@ -15,8 +15,8 @@ use Rattle.model.specs.Job.{digits, decimal, Run, linesOf, runLines, started, m
 use Rattle.model.proofs.Fresh.{fair-fresh, fresh-sound}
 use Rattle.model.proofs.Outcomes.{read-back}
 use Rattle.model.proofs.Jobs.{AllAnswered, Stopped, lines-end}
-use Rattle.reader.specs.Depot.{depotCards, depotFaults, opened, outputSize, blank, nothing, closing, depotText}
-use Rattle.reader.proofs.Opening.{limits}
+use Rattle.reader.specs.Depot.{depotShape, opened, outputSize, blank, nothing, closing, depotText}
+use Rattle.reader.proofs.Opening.{shape}
 use Rattle.reader.proofs.Wholes.{linesText, textIn, whole-text}
 
 -- the buffers are long enough and the store is sound
@@ -30,11 +30,11 @@ out-long = length-replicate {A = ℕ} outputSize 0
 
 opened-sound : sound opened ≡ true
 unfolding opened
-opened-sound = fresh-sound depotCards depotFaults limits
+opened-sound = fresh-sound depotShape shape
 
-opened-back : decode opened ≡ fresh depotCards depotFaults
+opened-back : decode opened ≡ fresh depotShape
 unfolding opened
-opened-back = read-back (fresh depotCards depotFaults) (fair-fresh depotCards depotFaults limits)
+opened-back = read-back (fresh depotShape) (fair-fresh depotShape shape)
 
 pub depot-long : (input : List ℕ) → mostText < length input → depotText input ≡ 49 ∷ 51 ∷ 32 ∷ 48 ∷ 32 ∷ 48 ∷ 32 ∷ 48 ∷ 10 ∷ []
 unfolding depotText textIn closing decimal digits
@@ -44,7 +44,7 @@ depot-long input h =
 
 -- the lines of an input, run
 abbrev pub ran : List ℕ → Run
-ran input = runLines (linesOf input) outputSize (started (fresh depotCards depotFaults) nothing)
+ran input = runLines (linesOf input) outputSize (started (fresh depotShape) nothing)
 
 pub depot-lines : (input : List ℕ) → length input ≤ mostText → depotText input ≡ ran input .text ++ closing (ran input .number)
 unfolding depotText textIn linesText
@@ -54,9 +54,9 @@ depot-lines input h =
 
 pub depot-closes : (input : List ℕ) → (closing (ran input .number) ≡ []) ⊎ (closing (ran input .number) ≡ 49 ∷ 48 ∷ 32 ∷ 48 ∷ 32 ∷ 48 ∷ 32 ∷ 48 ∷ 10 ∷ [])
 unfolding closing decimal digits
-depot-closes input = go (lines-end (linesOf input) outputSize (started (fresh depotCards depotFaults) nothing) refl)
+depot-closes input = go (lines-end (linesOf input) outputSize (started (fresh depotShape) nothing) refl)
   where
-    go : AllAnswered (linesOf input) (started (fresh depotCards depotFaults) nothing) (ran input) ⊎ Stopped (linesOf input) outputSize (started (fresh depotCards depotFaults) nothing) (ran input)
+    go : AllAnswered (linesOf input) (started (fresh depotShape) nothing) (ran input) ⊎ Stopped (linesOf input) outputSize (started (fresh depotShape) nothing) (ran input)
         → (closing (ran input .number) ≡ []) ⊎ (closing (ran input .number) ≡ 49 ∷ 48 ∷ 32 ∷ 48 ∷ 32 ∷ 48 ∷ 32 ∷ 48 ∷ 10 ∷ [])
     go (inl a) = inl (rw (a .number))
     go (inr s) = inr (rw (s .number))

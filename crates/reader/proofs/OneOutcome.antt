@@ -5,7 +5,7 @@ use mathlib.Core.List.{List}
 use Prim.Native.Nat.{ℕ}
 use Rattle.rules.specs.Code.{codeOf}
 use Rattle.rules.specs.Table.{addressOf}
-use Rattle.model.specs.Calls.{openCall}
+use Rattle.model.specs.Calls.{Terms, openCall}
 use Rattle.model.specs.Runs.{Act, Call.acting}
 use Rattle.store.specs.Leaves.{Opens}
 use Rattle.store.specs.Sequences.{Given, Meets}
@@ -23,8 +23,8 @@ pub one-address : (code maxp p a b : ℕ) → a ≡ addressOf code maxp p → b 
 one-address code maxp p a b e f = e ∙ sym f
 
 -- `open`
-pub one-opening : (w : List ℕ) (c f m n : ℕ) (u v : List ℕ) → Opens (openCall w c f) m u → Opens (openCall w c f) n v → (m ≡ n) × (u ≡ v)
-one-opening w c f m n u v p q = Store.one-opening (openCall w c f) p q
+pub one-opening : (w : List ℕ) (t : Terms) (m n : ℕ) (u v : List ℕ) → Opens (openCall w t) m u → Opens (openCall w t) n v → (m ≡ n) × (u ≡ v)
+one-opening w t m n u v p q = Store.one-opening (openCall w t) p q
 
 -- `enter`, `file`, `show` and `withdraw`
 pub one-call : (w scratch : List ℕ) (act : Act) (a b : Given) → Meets w (acting scratch act) a → Meets w (acting scratch act) b → a ≡ b

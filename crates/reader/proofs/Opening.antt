@@ -6,17 +6,19 @@ use mathlib.Core.List.{List}
 use lib.ListN.{length}
 use Rattle.rules.proofs.Tests.{not-both}
 use Rattle.model.specs.Lists.{between}
-use Rattle.model.specs.Layout.{lengthFor, limitsOk, encode}
+use Rattle.model.specs.Layout.{lengthFor, limitsOk, shapeOk, encode}
 use Rattle.model.specs.Model.{fresh}
 use Rattle.model.specs.Calls.{openCall}
-use Rattle.model.proofs.Outcomes.{open-cases}
-use Rattle.reader.specs.Depot.{depotCards, depotFaults, opened}
+use Rattle.model.proofs.Outcomes.{terms-ok, open-cases}
+use Rattle.reader.specs.Depot.{depotCards, depotFaults, depotTerms, depotShape, opened}
 
-pub limits : limitsOk depotCards depotFaults ≡ true
+limits : limitsOk depotCards depotFaults ≡ true
 unfolding limitsOk between
 limits = refl
 
-pub opens-fresh : (w : List ℕ) → length w ≡ lengthFor depotCards depotFaults → openCall w depotCards depotFaults .words ≡ opened
+pub shape : shapeOk depotShape ≡ true
+shape = terms-ok depotTerms limits
+
+pub opens-fresh : (w : List ℕ) → length w ≡ lengthFor depotShape → openCall w depotTerms .words ≡ opened
 unfolding opened
-opens-fresh w l =
-    open-cases w depotCards depotFaults (λ r. r .words ≡ encode (fresh depotCards depotFaults)) (λ v. not-both limits v) (λ v n. absurd (n l)) (λ v e. refl)
+opens-fresh w l = open-cases w depotTerms (λ r. r .words ≡ encode (fresh depotShape)) (λ v. not-both limits v) (λ o v n. absurd (n l)) (λ o v e. refl)

@@ -5,9 +5,10 @@ use mathlib.Core.List.{List, [], _∷_, _++_}
 use Prim.Native.Nat.{ℕ, _+_}
 use lib.Dec.{eqb}
 use lib.ListN.{length, take, drop, replicate}
+use Rattle.model.specs.Shape.{Shape}
 use Rattle.model.specs.Model.{fresh}
 use Rattle.model.specs.Layout.{encode}
-use Rattle.model.specs.Calls.{scratchNeed}
+use Rattle.model.specs.Calls.{scratchNeed, Terms, shapeFor}
 use Rattle.model.specs.Job.{decimal, Tally, Finished, job}
 use Rattle.job.specs.declared.Done.{Done}
 
@@ -18,9 +19,15 @@ depotCards = 256
 abbrev pub depotFaults : ℕ
 depotFaults = 512
 
--- its words, fresh
+-- what it opens its store with, and the words of that store, fresh
+abbrev pub depotTerms : Terms
+depotTerms = record { cards = depotCards; faults = depotFaults }
+
+abbrev pub depotShape : Shape
+depotShape = shapeFor depotTerms
+
 unfoldable pub opened : List ℕ
-opened = encode (fresh depotCards depotFaults)
+opened = encode (fresh depotShape)
 
 -- the bytes of output
 unfoldable pub outputSize : ℕ

@@ -8,16 +8,16 @@ use native.Mathlib.Omega.{arith}
 use lib.Arith.{mod-mul}
 use lib.Dec.{ltb}
 use borrow.Author.Tests.{ltb-true, ltb-false, lt-ltb, le-ltb, eq-eqb, ne-eqb}
-use Rattle.rules.specs.Table.{stateOk, bucketOf, addressOf, highMaxp, highP, lowMaxp, lowP}
+use Rattle.rules.specs.Table.{top, stateOk, bucketOf, addressOf, highMaxp, highP, lowMaxp, lowP}
 use Rattle.rules.proofs.Tests.{by-cases, eq?}
 use Rattle.rules.proofs.States.{State, state-of, state-ok, size-low, size-double, size-half}
 
 -- the address rule where the state is good, and where it is not
-pub address-good : (c m p : ℕ) → stateOk m p ≡ true → addressOf c m p ≡ bucketOf c m p
+pub address-good : (c m p : ℕ) → stateOk top m p ≡ true → addressOf c m p ≡ bucketOf c m p
 unfolding addressOf
 address-good c m p h = simp h
 
-pub address-bad : (c m p : ℕ) → stateOk m p ≡ false → addressOf c m p ≡ 4294967295
+pub address-bad : (c m p : ℕ) → stateOk top m p ≡ false → addressOf c m p ≡ 4294967295
 unfolding addressOf
 address-bad c m p h = simp h
 
@@ -46,8 +46,8 @@ bucket-below c m p h =
     (λ e. rw e (⊎-elim (λ q. omega (arith, ltb-true)) (λ q. omega (arith, ltb-true)) (halves c m h)))
     (λ e. rw e (omega (arith, mod-lt c h)))
 
-pub address-below : (c m p : ℕ) → stateOk m p ≡ true → addressOf c m p < m + p
-address-below c m p h = rw (address-good c m p h) (bucket-below c m p (omega (arith, size-low (state-of m p h .size))))
+pub address-below : (c m p : ℕ) → stateOk top m p ≡ true → addressOf c m p < m + p
+address-below c m p h = rw (address-good c m p h) (bucket-below c m p (omega (arith, size-low (state-of top m p h .size))))
 
 -- which code has the address p, the bucket that is split next
 pub bucket-at : (c m p : ℕ) → 0 < m → p < m → bucketOf c m p ≡ p → c % m ≡ p
@@ -87,13 +87,13 @@ grown-over m p e = (simp (eq-eqb _ _ e), simp (eq-eqb _ _ e))
 pub grow-count : (m p : ℕ) → highMaxp m p + highP m p ≡ m + p + 1
 grow-count m p = ⊎-elim (λ e. omega (arith, grown-over m p e)) (λ n. omega (arith, grown-on m p n)) (eq? (p + 1) m)
 
-pub grow-ok : (m p : ℕ) → stateOk m p ≡ true → m + p < 256 → stateOk (highMaxp m p) (highP m p) ≡ true
-grow-ok m p h room = state-ok (go (eq? (p + 1) m))
+pub grow-ok : (t m p : ℕ) → t ≤ top → stateOk t m p ≡ true → m + p < t → stateOk t (highMaxp m p) (highP m p) ≡ true
+grow-ok t m p most h room = state-ok (go (eq? (p + 1) m))
   where
-    g : State m p
-    g = state-of m p h
+    g : State t m p
+    g = state-of t m p h
 
-    go : (p + 1 ≡ m) ⊎ (p + 1 ≡ m → ⊥) → State (highMaxp m p) (highP m p)
+    go : (p + 1 ≡ m) ⊎ (p + 1 ≡ m → ⊥) → State t (highMaxp m p) (highP m p)
     go (inl e) =
         rw (grown-over m p e .0, grown-over m p e .1)
         (record { size = size-double (g .size) (omega arith); below = omega (arith, size-low (g .size)); room = omega arith })
@@ -108,19 +108,19 @@ bucket-grown c m p h = go (eq? (p + 1) m)
     go (inl e) = rw (grown-over m p e .0, grown-over m p e .1, e) (bucket-doubled c m h)
     go (inr n) = rw (grown-on m p n .0, grown-on m p n .1)
 
-low : (m p : ℕ) → stateOk m p ≡ true → 0 < m
-low m p h = omega (arith, size-low (state-of m p h .size))
+low : (m p : ℕ) → stateOk top m p ≡ true → 0 < m
+low m p h = omega (arith, size-low (state-of top m p h .size))
 
 -- a split: a card of bucket p goes to bucket p or to the new bucket m + p, by its code modulo 2 m, and every other card keeps its address
-module _ (c m p : ℕ) (ok : stateOk m p ≡ true) (room : m + p < 256) where
+module _ (c m p : ℕ) (ok : stateOk top m p ≡ true) (room : m + p < top) where
   grown : addressOf c (highMaxp m p) (highP m p) ≡ bucketOf c m (p + 1)
-  grown = address-good c _ _ (grow-ok m p ok room) ∙ bucket-grown c m p (low m p ok)
+  grown = address-good c _ _ (grow-ok top m p (omega arith) ok room) ∙ bucket-grown c m p (low m p ok)
 
   pub grow-moves : addressOf c m p ≡ p → addressOf c (highMaxp m p) (highP m p) ≡ c % (2 * m)
-  grow-moves e = grown ∙ bucket-moves c m p (low m p ok) (state-of m p ok .below) (sym (address-good c m p ok) ∙ e)
+  grow-moves e = grown ∙ bucket-moves c m p (low m p ok) (state-of top m p ok .below) (sym (address-good c m p ok) ∙ e)
 
   pub grow-two : addressOf c m p ≡ p → (c % (2 * m) ≡ p) ⊎ (c % (2 * m) ≡ m + p)
-  grow-two e = go (halves c m (low m p ok)) (bucket-at c m p (low m p ok) (state-of m p ok .below) (sym (address-good c m p ok) ∙ e))
+  grow-two e = go (halves c m (low m p ok)) (bucket-at c m p (low m p ok) (state-of top m p ok .below) (sym (address-good c m p ok) ∙ e))
     where
       go : (c % (2 * m) ≡ c % m) ⊎ (c % (2 * m) ≡ m + c % m) → c % m ≡ p → (c % (2 * m) ≡ p) ⊎ (c % (2 * m) ≡ m + p)
       go (inl q) r = inl (q ∙ r)
@@ -150,27 +150,27 @@ unfolding lowMaxp lowP
 shrunk-over m p e = (simp (eq-eqb _ _ e), simp (eq-eqb _ _ e))
 
 -- a contraction gives a good state with one bucket less, of which a split makes the state again
-module _ (m p : ℕ) (ok : stateOk m p ≡ true) (more : 16 < m + p) where
-  pub shrink-ok : stateOk (lowMaxp m p) (lowP m p) ≡ true
-  shrink-ok = state-ok (go (eq? p 0))
-    where
-      g : State m p
-      g = state-of m p ok
+pub shrink-ok : (t m p : ℕ) → stateOk t m p ≡ true → 16 < m + p → stateOk t (lowMaxp m p) (lowP m p) ≡ true
+shrink-ok t m p ok more = state-ok (go (eq? p 0))
+  where
+    g : State t m p
+    g = state-of t m p ok
 
-      go : (p ≡ 0) ⊎ (p ≡ 0 → ⊥) → State (lowMaxp m p) (lowP m p)
-      go (inl e) =
-          let k = size-half (g .size) (omega arith) in
-          rw (shrunk-over m p e .0, shrunk-over m p e .1)
-          (record { size = k .0; below = omega (arith, size-low (k .0)); room = omega (arith, g .room) })
-      go (inr n) =
-          rw (shrunk-on m p n .0, shrunk-on m p n .1)
-          (record { size = g .size; below = omega (arith, g .below); room = omega (arith, g .room) })
+    go : (p ≡ 0) ⊎ (p ≡ 0 → ⊥) → State t (lowMaxp m p) (lowP m p)
+    go (inl e) =
+        let k = size-half (g .size) (omega arith) in
+        rw (shrunk-over m p e .0, shrunk-over m p e .1)
+        (record { size = k .0; below = omega (arith, size-low (k .0)); room = omega (arith, g .room) })
+    go (inr n) =
+        rw (shrunk-on m p n .0, shrunk-on m p n .1)
+        (record { size = g .size; below = omega (arith, g .below); room = omega (arith, g .room) })
 
+module _ (m p : ℕ) (ok : stateOk top m p ≡ true) (more : 16 < m + p) where
   pub shrink-grow : (highMaxp (lowMaxp m p) (lowP m p) ≡ m) × (highP (lowMaxp m p) (lowP m p) ≡ p)
   shrink-grow = go (eq? p 0)
     where
-      g : State m p
-      g = state-of m p ok
+      g : State top m p
+      g = state-of top m p ok
 
       go : (p ≡ 0) ⊎ (p ≡ 0 → ⊥) → (highMaxp (lowMaxp m p) (lowP m p) ≡ m) × (highP (lowMaxp m p) (lowP m p) ≡ p)
       go (inl e) =
@@ -190,11 +190,11 @@ module _ (m p : ℕ) (ok : stateOk m p ≡ true) (more : 16 < m + p) where
 
   -- a contraction: the cards of the last bucket go to bucket p of the state after it, and every other card keeps its address
   pub shrink-joins : (c : ℕ) → addressOf c m p ≡ lowMaxp m p + lowP m p → addressOf c (lowMaxp m p) (lowP m p) ≡ lowP m p
-  shrink-joins c e = grow-new c _ _ shrink-ok (omega (arith, shrink-count, state-of m p ok .room)) (back c ∙ e)
+  shrink-joins c e = grow-new c _ _ (shrink-ok top m p ok more) (omega (arith, shrink-count, state-of top m p ok .room)) (back c ∙ e)
 
   pub shrink-stays : (c : ℕ) → (addressOf c m p ≡ lowMaxp m p + lowP m p → ⊥) → addressOf c (lowMaxp m p) (lowP m p) ≡ addressOf c m p
   shrink-stays c n =
-      sym (grow-old c _ _ shrink-ok (omega (arith, shrink-count, state-of m p ok .room)) (λ e. n (sym (back c) ∙ e))) ∙ back c
+      sym (grow-old c _ _ (shrink-ok top m p ok more) (omega (arith, shrink-count, state-of top m p ok .room)) (λ e. n (sym (back c) ∙ e))) ∙ back c
 
 -- a contraction takes a split back
 pub grow-shrink : (m p : ℕ) → 0 < m → (lowMaxp (highMaxp m p) (highP m p) ≡ m) × (lowP (highMaxp m p) (highP m p) ≡ p)

@@ -7,7 +7,7 @@ use native.Mathlib.Omega.{arith}
 use lib.ListN.{length, getD}
 use borrow.Author.Tests.{eqb-true, not-true}
 use Rattle.rules.specs.Code.{codeFrom, codeOf}
-use Rattle.rules.specs.Table.{sizeOk, stateOk, bucketOf, addressOf, splits, contracts}
+use Rattle.rules.specs.Table.{top, sizeOk, stateOk, bucketOf, addressOf, splits, contracts}
 use Rattle.rules.specs.Examples.{Example, codeIs, addressIs, noState, splitFrom, contractsFrom, Says, holds, allHold, marked}
 use Rattle.rules.proofs.Tests.{both}
 use Rattle.rules.proofs.Addresses.{address-bad}
@@ -23,8 +23,8 @@ unfolding holds
 says (codeIs bytes code) h = eqb-true _ _ h
 says (addressIs code maxp p a) h = eqb-true _ _ h
 says (noState maxp p) h = λ code. address-bad code maxp p (not-true _ h)
-says (splitFrom b n k) h = let t = both (not (splits n b)) (splits k b) h in (not-true _ (t .0), t .1)
-says (contractsFrom b n k) h = let t = both (not (contracts n b)) (contracts k b) h in (not-true _ (t .0), t .1)
+says (splitFrom b n k) h = let t = both (not (splits top 4 n b)) (splits top 4 k b) h in (not-true _ (t .0), t .1)
+says (contractsFrom b n k) h = let t = both (not (contracts 2 n b)) (contracts 2 k b) h in (not-true _ (t .0), t .1)
 
 each : (es : List Example) → allHold es ≡ true → (k : ℕ) (d : Example) → k < length es → Says (getD es k d)
 unfolding allHold

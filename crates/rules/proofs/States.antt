@@ -89,19 +89,25 @@ size-half s64 h = (s32, refl)
 size-half s128 h = (s64, refl)
 size-half s256 h = (s128, refl)
 
--- a good state
-pub record State (m p : ℕ) : Type 0 where
+-- a good state of a table of at most t buckets
+pub record State (t m p : ℕ) : Type 0 where
   pub size : Size m
   pub below : p < m
-  pub room : m + p ≤ 256
+  pub room : m + p ≤ t
 
-pub state-of : (m p : ℕ) → stateOk m p ≡ true → State m p
+pub state-of : (t m p : ℕ) → stateOk t m p ≡ true → State t m p
 unfolding stateOk
-state-of m p h =
-    let t = both _ _ h in
-    let u = both _ _ (t .1) in
-    record { size = ok-size m (t .0); below = ltb-true p m (u .0); room = leb-true (m + p) 256 (u .1) }
+state-of t m p h =
+    let e = both _ _ h in
+    let u = both _ _ (e .1) in
+    record { size = ok-size m (e .0); below = ltb-true p m (u .0); room = leb-true (m + p) t (u .1) }
 
-pub state-ok : {m p : ℕ} → State m p → stateOk m p ≡ true
+pub state-ok : {t m p : ℕ} → State t m p → stateOk t m p ≡ true
 unfolding stateOk
-state-ok {m} {p} g = simp (size-ok (g .size), lt-ltb p m (g .below), le-leb (m + p) 256 (g .room))
+state-ok {t} {m} {p} g = simp (size-ok (g .size), lt-ltb p m (g .below), le-leb (m + p) t (g .room))
+
+-- a state of a small table is one of a larger table
+pub state-wider : (t u m p : ℕ) → t ≤ u → stateOk t m p ≡ true → stateOk u m p ≡ true
+state-wider t u m p l h =
+    let g = state-of t m p h in
+    state-ok (record { size = g .size; below = g .below; room = omega (arith, g .room) })

@@ -5,7 +5,7 @@ use mathlib.Core.List.{List, [], _∷_}
 use Prim.Native.Nat.{ℕ}
 use lib.Dec.{eqb}
 use Rattle.rules.specs.Code.{codeOf}
-use Rattle.rules.specs.Table.{noAddress, stateOk, addressOf, splits, contracts}
+use Rattle.rules.specs.Table.{top, noAddress, stateOk, addressOf, splits, contracts}
 
 -- a line of the table
 pub data Example : Type 0 where
@@ -20,16 +20,16 @@ abbrev pub Says : Example → Type 0
 Says (codeIs bytes code) = codeOf bytes ≡ code
 Says (addressIs code maxp p a) = addressOf code maxp p ≡ a
 Says (noState maxp p) = (code : ℕ) → addressOf code maxp p ≡ noAddress
-Says (splitFrom b n k) = (splits n b ≡ false) × (splits k b ≡ true)
-Says (contractsFrom b n k) = (contracts n b ≡ false) × (contracts k b ≡ true)
+Says (splitFrom b n k) = (splits top 4 n b ≡ false) × (splits top 4 k b ≡ true)
+Says (contractsFrom b n k) = (contracts 2 n b ≡ false) × (contracts 2 k b ≡ true)
 
 -- the same as a test
 unfoldable pub holds : Example → Bool
 holds (codeIs bytes code) = eqb (codeOf bytes) code
 holds (addressIs code maxp p a) = eqb (addressOf code maxp p) a
-holds (noState maxp p) = not (stateOk maxp p)
-holds (splitFrom b n k) = not (splits n b) && splits k b
-holds (contractsFrom b n k) = not (contracts n b) && contracts k b
+holds (noState maxp p) = not (stateOk top maxp p)
+holds (splitFrom b n k) = not (splits top 4 n b) && splits top 4 k b
+holds (contractsFrom b n k) = not (contracts 2 n b) && contracts 2 k b
 
 unfoldable pub allHold : List Example → Bool
 allHold [] = true

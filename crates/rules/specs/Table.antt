@@ -3,19 +3,12 @@ use Prim.Native.Nat.{ℕ, _+_, _-_, _*_, _/_, _%_}
 use mathlib.Core.Bool.{Bool, cond, _&&_, _||_}
 use lib.Dec.{leb, ltb, eqb}
 
--- the fewest buckets of a table, and the most
+-- the fewest buckets of a table, and the most that any has
 abbrev pub least : ℕ
 least = 16
 
 abbrev pub top : ℕ
 top = 256
-
--- cards a bucket: above `upper` the table grows, below `lower` it contracts
-abbrev pub upper : ℕ
-upper = 4
-
-abbrev pub lower : ℕ
-lower = 2
 
 -- the address rule's answer where (maxp, p) is no state
 abbrev pub noAddress : ℕ
@@ -25,9 +18,9 @@ noAddress = 4294967295
 unfoldable pub sizeOk : ℕ → Bool
 sizeOk maxp = eqb maxp 16 || eqb maxp 32 || eqb maxp 64 || eqb maxp 128 || eqb maxp 256
 
--- (maxp, p) is a state of the table, with maxp + p buckets
-unfoldable pub stateOk : ℕ → ℕ → Bool
-stateOk maxp p = sizeOk maxp && (ltb p maxp && leb (maxp + p) top)
+-- (maxp, p) is a state of a table of at most t buckets: it has maxp + p
+unfoldable pub stateOk : ℕ → ℕ → ℕ → Bool
+stateOk t maxp p = sizeOk maxp && (ltb p maxp && leb (maxp + p) t)
 
 -- the bucket of a code: code mod maxp, or, if that is below p, code mod 2 maxp
 unfoldable pub bucketOf : ℕ → ℕ → ℕ → ℕ
@@ -35,15 +28,15 @@ bucketOf code maxp p = cond (ltb (code % maxp) p) (code % (2 * maxp)) (code % ma
 
 -- the address rule, for any three numbers
 unfoldable pub addressOf : ℕ → ℕ → ℕ → ℕ
-addressOf code maxp p = cond (stateOk maxp p) (bucketOf code maxp p) noAddress
+addressOf code maxp p = cond (stateOk top maxp p) (bucketOf code maxp p) noAddress
 
--- n cards in b buckets are too many: one bucket is split
-unfoldable pub splits : ℕ → ℕ → Bool
-splits n b = ltb (upper * b) n
+-- n cards in b buckets are too many, more than u a bucket, and there are fewer than t buckets: one is split
+unfoldable pub splits : ℕ → ℕ → ℕ → ℕ → Bool
+splits t u n b = ltb (u * b) n && ltb b t
 
--- n cards in b buckets are too few: two buckets are joined
-unfoldable pub contracts : ℕ → ℕ → Bool
-contracts n b = ltb n (lower * b) && ltb least b
+-- n cards in b buckets are too few, fewer than l a bucket: two buckets are joined
+unfoldable pub contracts : ℕ → ℕ → ℕ → Bool
+contracts l n b = ltb n (l * b) && ltb least b
 
 -- the state with one bucket more: p grows by 1; if p = maxp, maxp doubles and p is 0
 unfoldable pub highMaxp : ℕ → ℕ → ℕ

@@ -14,11 +14,6 @@ pub const LEAST: u32 = 16;
 
 pub const TOP: u32 = 256;
 
-// Cards a bucket: above UPPER the table grows, below LOWER it contracts.
-const UPPER: u64 = 4;
-
-pub const LOWER: u64 = 2;
-
 // The address where (maxp, p) is no state of the table.
 const NO_ADDRESS: u32 = 4294967295;
 
@@ -60,12 +55,12 @@ pub fn serial_code(serial: [u8; 16], len: usize) -> u32
     }
 }
 
-// Whether (maxp, p) is a state of the table.
-pub fn state_ok(maxp: u32, p: u32) -> bool
-    ensures { λ r. ⌜ r ≡ stateOk maxp p ⌝ }
+// Whether (maxp, p) is a state of a table of at most `top` buckets.
+pub fn state_ok(top: u32, maxp: u32, p: u32) -> bool
+    ensures { λ r. ⌜ r ≡ stateOk top maxp p ⌝ }
 {
     match maxp {
-        16 | 32 | 64 | 128 | 256 => p < maxp && maxp + p <= TOP,
+        16 | 32 | 64 | 128 | 256 => p < maxp && maxp + p <= top,
         _ => false,
     }
 }
@@ -75,7 +70,7 @@ pub fn state_ok(maxp: u32, p: u32) -> bool
 pub extern "C" fn reader_address(code: u32, maxp: u32, p: u32) -> u32
     ensures { λ r. ⌜ r ≡ addressOf code maxp p ⌝ }
 {
-    if state_ok(maxp, p) {
+    if state_ok(TOP, maxp, p) {
         let a = code % maxp;
         if a < p { code % (2 * maxp) } else { a }
     } else {
@@ -83,16 +78,16 @@ pub extern "C" fn reader_address(code: u32, maxp: u32, p: u32) -> u32
     }
 }
 
-// Whether n cards in b buckets call for a split.
-pub fn must_split(n: u32, b: u32) -> bool
-    ensures { λ r. ⌜ r ≡ splits n b ⌝ }
+// Whether n cards in b buckets call for a split: more than `upper` a bucket, and fewer than `top` buckets.
+pub fn must_split(top: u32, upper: u32, n: u32, b: u32) -> bool
+    ensures { λ r. ⌜ r ≡ splits top upper n b ⌝ }
 {
-    UPPER * (b as u64) < n as u64
+    (upper as u64) * (b as u64) < n as u64 && b < top
 }
 
-// Whether n cards in b buckets call for a contraction.
-pub fn must_contract(n: u32, b: u32) -> bool
-    ensures { λ r. ⌜ r ≡ contracts n b ⌝ }
+// Whether n cards in b buckets call for a contraction: fewer than `lower` a bucket, and more than 16 buckets.
+pub fn must_contract(lower: u32, n: u32, b: u32) -> bool
+    ensures { λ r. ⌜ r ≡ contracts lower n b ⌝ }
 {
-    (n as u64) < LOWER * (b as u64) && LEAST < b
+    (n as u64) < (lower as u64) * (b as u64) && LEAST < b
 }

@@ -1,85 +1,145 @@
--- Laws of the words of cells and of the tests on them, that the functions of `cells` rest on.
-use mathlib.Core.Path.{_≡_, refl, ap}
+-- Laws of a header that the words are sized by (`sized-from`): a word of a cell is there (`card-in`,
+-- `fault-in`) and is the one asked for (`card-is`, `fault-is`). Of the words only their length counts (`sized-same`).
+-- Then laws of the tests on cells, that the functions of `cells` rest on.
+use mathlib.Core.Path.{_≡_, refl, ap, _∙_}
 use mathlib.Core.Bool.{Bool, true, false, cond}
 use mathlib.Core.List.{List}
-use Prim.Native.Nat.{ℕ, suc, _+_, _-_, _*_, _≤_, _<_}
+use Prim.Native.Nat.{ℕ, suc, _+_, _-_, _*_, _/_, _≤_, _<_}
+use native.Mathlib.Nat.{mul-le-mul}
 use native.Mathlib.Omega.{arith}
 use borrow.Author.Tests.{eq-eqb, ne-eqb}
 use lib.Dec.{eqb}
-use lib.ListN.{getD}
-use Rattle.rules.specs.Table.{top}
+use lib.ListN.{length, getD, set, length-set}
 use Rattle.model.specs.Lists.{between}
-use Rattle.model.specs.Layout.{cardsAt, faultsAt, cellAt, cardWord, faultWord}
-use Rattle.store.specs.Cells.{Sized, widthOf, cellWord, sameKey, metFirst, freeFits}
+use Rattle.model.specs.Shape.{Shape, entries, topOf}
+use Rattle.model.specs.Layout.{cardWidth, faultWidth, segmentsAt, cardsAt, faultsAt, lengthFor, shapeOk, cellAt, cardWord, faultWord}
+use Rattle.model.proofs.Places.{cellAt-below}
+use Rattle.model.proofs.Shapes.{top-most, entries-some, width-nine, width-most, shaped}
+use Rattle.store.specs.declared.cells.Header.{Header}
+use Rattle.store.specs.Cells.{shapeIn, Room, Sized, widthOf, cellWord, sameKey, metFirst, freeFits}
 use Rattle.store.specs.Checker.{reachOf}
 use Rattle.store.proofs.Rows.{testFrom}
 
--- the code's own sums are the places of the words
-pub card-place : (w : List ℕ) (i k : ℕ) → getD w (288 + 9 * (i - 1) + k) 0 ≡ cardWord w i k
-unfolding cardWord cellAt cardsAt
-card-place w i k = refl
+-- what a header has in numbers, where the words are so long
+module _ (w : List ℕ) (h : Header) (ok : shapeOk (shapeIn h) ≡ true) (long : length w ≡ lengthFor (shapeIn h)) where
+  cards-most : cardWidth (shapeIn h) * h .cards ≤ 9216
+  cards-most = mul-le-mul {n₂ = 9} {m₂ = 1024} (width-most (shapeIn h)) (shaped (shapeIn h) ok .most)
 
-pub fault-place : {w : List ℕ} {c f : ℕ} → Sized w c f → (i k : ℕ) → getD w (288 + 9 * c + 3 * (i - 1) + k) 0 ≡ faultWord w i k
-unfolding faultWord cellAt faultsAt cardsAt
-fault-place {w} s i k = rw (s .limit)
+  room-from : h .top ≡ topOf (shapeIn h) → h .segments ≡ segmentsAt (shapeIn h) → h .base ≡ cardsAt (shapeIn h) → h .width ≡ cardWidth (shapeIn h)
+      → h .behind ≡ faultsAt (shapeIn h) → Room w h
+  unfolding lengthFor faultsAt cardsAt
+  room-from t g b v f =
+      let k = shaped (shapeIn h) ok in
+      let e = entries-some (shapeIn h) in
+      record {
+        first = omega (arith, g, e);
+        least = omega (arith, t, e);
+        most = omega (arith, t, top-most (shapeIn h));
+        table = omega (arith, b, g, t);
+        within = omega (arith, b, f);
+        whole = omega (arith, long, f);
+        few = omega (arith, long, cards-most, top-most (shapeIn h), k .mostFaults);
+        nine = omega (arith, v, width-nine (shapeIn h));
+        cards = k .some;
+        faults = k .someFaults;
+        mostCards = k .most;
+        mostFaults = k .mostFaults;
+      }
+
+  pub sized-from : h .top ≡ topOf (shapeIn h) → h .segments ≡ segmentsAt (shapeIn h) → h .base ≡ cardsAt (shapeIn h) → h .width ≡ cardWidth (shapeIn h)
+      → h .behind ≡ faultsAt (shapeIn h) → Sized w h
+  sized-from t g b v f = record { ok = ok; long = long; top = t; segments = g; base = b; width = v; behind = f; room = room-from t g b v f }
+
+module _ {w : List ℕ} {h : Header} (s : Sized w h) where
+  pub bucket-at : (b : ℕ) → h .segments + b ≡ segmentsAt (shapeIn h) + b
+  bucket-at b = omega (arith, s .segments)
+
+  -- a word of a cell
+  pub card-in : (i k : ℕ) → 1 ≤ i → i ≤ h .cards → k < h .width → h .base + h .width * (i - 1) + k < length w
+  unfolding cellAt lengthFor faultsAt
+  card-in i k a b l =
+      let e : h .width * (i - 1) ≡ cardWidth (shapeIn h) * (i - 1) = ap (λ (n : ℕ). n * (i - 1)) (s .width) in
+      omega (arith, s .long, s .base, cellAt-below (cardsAt (shapeIn h)) (cardWidth (shapeIn h)) (h .cards) i k a b (omega (arith, s .width)))
+
+  pub card-is : (i k : ℕ) → getD w (h .base + h .width * (i - 1) + k) 0 ≡ cardWord (shapeIn h) w i k
+  unfolding cardWord cellAt
+  card-is i k = λ t. getD w (s .base t + s .width t * (i - 1) + k) 0
+
+  pub fault-in : (i k : ℕ) → 1 ≤ i → i ≤ h .faults → k < faultWidth → h .behind + 3 * (i - 1) + k < length w
+  fault-in i k a b l = let r = s .room in omega arith
+
+  pub fault-is : (i k : ℕ) → getD w (h .behind + 3 * (i - 1) + k) 0 ≡ faultWord (shapeIn h) w i k
+  unfolding faultWord cellAt
+  fault-is i k = λ t. getD w (s .behind t + 3 * (i - 1) + k) 0
+
+  -- how many segments the most buckets take
+  pub segment-count : h .top / 16 ≡ entries (shapeIn h)
+  segment-count = omega (arith, s .top)
+
+  -- other words, as long
+  pub sized-same : {u : List ℕ} → length u ≡ length w → Sized u h
+  sized-same {u} e = sized-from u h (s .ok) (e ∙ s .long) (s .top) (s .segments) (s .base) (s .width) (s .behind)
+
+  pub sized-set : {u : List ℕ} (i v : ℕ) → u ≡ set w i v → Sized u h
+  sized-set i v e = sized-same (ap length e ∙ length-set w i v)
 
 -- the width of a part
-pub width-some : (faults : Bool) → 0 < widthOf faults
+pub width-some : (sh : Shape) (faults : Bool) → 0 < widthOf sh faults
 unfolding widthOf
-width-some true = omega arith
-width-some false = omega arith
+width-some sh true = omega arith
+width-some sh false = omega (arith, width-nine sh)
 
-pub width-most : (faults : Bool) → widthOf faults ≤ 9
+pub width-few : (sh : Shape) (faults : Bool) → widthOf sh faults ≤ 9
 unfolding widthOf
-width-most true = omega arith
-width-most false = omega arith
+width-few sh true = omega arith
+width-few sh false = omega (arith, width-most sh)
 
 -- the bucket of a chain is below the most
-pub bucket-most : (w : List ℕ) (faults : Bool) (j : ℕ) → j < reachOf w faults → cond faults 0 j ≤ top
+pub bucket-most : (sh : Shape) (faults : Bool) (j : ℕ) → j < reachOf sh faults → cond faults 0 j ≤ topOf sh
 unfolding reachOf
-bucket-most w true j h = omega arith
-bucket-most w false j h = omega arith
+bucket-most sh true j h = omega arith
+bucket-most sh false j h = omega arith
 
 -- the search for a card's twin along a chain: what is left from here is what was left from the start
-module _ (w : List ℕ) (j i c n : ℕ) (h : n < c) where
+module _ (sh : Shape) (w : List ℕ) (j i c n : ℕ) (h : n < c) where
   more : c - n ≡ suc (c - (n + 1))
   more = omega arith
 
-  pub met-here : j ≡ i → metFirst (c - n) w j i ≡ true
+  pub met-here : j ≡ i → metFirst (c - n) sh w j i ≡ true
   unfolding metFirst
   met-here e = rw (more, eq-eqb j i e)
 
-  pub met-out : (j ≡ i → ⊥) → between 1 (getD w 1 0) j ≡ false → metFirst (c - n) w j i ≡ false
+  pub met-out : (j ≡ i → ⊥) → between 1 (sh .limit) j ≡ false → metFirst (c - n) sh w j i ≡ false
   unfolding metFirst
   met-out d e = rw (more, ne-eqb j i d, e)
 
-  pub met-twin : (j ≡ i → ⊥) → between 1 (getD w 1 0) j ≡ true → sameKey w j i ≡ true → metFirst (c - n) w j i ≡ false
+  pub met-twin : (j ≡ i → ⊥) → between 1 (sh .limit) j ≡ true → sameKey sh w j i ≡ true → metFirst (c - n) sh w j i ≡ false
   unfolding metFirst
   met-twin d e t = rw (more, ne-eqb j i d, e, t)
 
-  pub met-on : (j ≡ i → ⊥) → between 1 (getD w 1 0) j ≡ true → sameKey w j i ≡ false → metFirst (c - (n + 1)) w (cardWord w j 0) i ≡ metFirst (c - n) w j i
+  pub met-on : (j ≡ i → ⊥) → between 1 (sh .limit) j ≡ true → sameKey sh w j i ≡ false → metFirst (c - (n + 1)) sh w (cardWord sh w j 0) i ≡ metFirst (c - n) sh w j i
   unfolding metFirst
   met-on d e t = rw (more, ne-eqb j i d, e, t)
 
-pub met-start : (w : List ℕ) (j i c : ℕ) → metFirst (c - 0) w j i ≡ metFirst c w j i
-met-start w j i c = ap (λ (n : ℕ). metFirst n w j i) (let z : c - 0 ≡ c = omega arith in z)
+pub met-start : (sh : Shape) (w : List ℕ) (j i c : ℕ) → metFirst (c - 0) sh w j i ≡ metFirst c sh w j i
+met-start sh w j i c = ap (λ (n : ℕ). metFirst n sh w j i) (let z : c - 0 ≡ c = omega arith in z)
 
-pub met-end : (w : List ℕ) (j i c n : ℕ) → c ≤ n → metFirst (c - n) w j i ≡ false
+pub met-end : (sh : Shape) (w : List ℕ) (j i c n : ℕ) → c ≤ n → metFirst (c - n) sh w j i ≡ false
 unfolding metFirst
-met-end w j i c n h = let z : c - n ≡ 0 = omega arith in rw z
+met-end sh w j i c n h = let z : c - n ≡ 0 = omega arith in rw z
 
 -- a word of a free cell, and all of them
-unfoldable pub zeroAt : List ℕ → Bool → ℕ → ℕ → Bool
-zeroAt w faults i k = eqb (cellWord w faults i k) 0
+unfoldable pub zeroAt : Shape → List ℕ → Bool → ℕ → ℕ → Bool
+zeroAt sh w faults i k = eqb (cellWord sh w faults i k) 0
 
-pub zero-start : (w : List ℕ) (faults : Bool) (i : ℕ) {e : ℕ} → e ≡ widthOf faults → testFrom (zeroAt w faults i) 1 e ≡ freeFits w faults i
+pub zero-start : (sh : Shape) (w : List ℕ) (faults : Bool) (i : ℕ) {e : ℕ} → e ≡ widthOf sh faults → testFrom (zeroAt sh w faults i) 1 e ≡ freeFits sh w faults i
 unfolding testFrom zeroAt freeFits
-zero-start w faults i z = rw z
+zero-start sh w faults i z = rw z
 
-pub zero-here : (w : List ℕ) (faults : Bool) (i k : ℕ) → cellWord w faults i k ≡ 0 → zeroAt w faults i k ≡ true
+pub zero-here : (sh : Shape) (w : List ℕ) (faults : Bool) (i k : ℕ) → cellWord sh w faults i k ≡ 0 → zeroAt sh w faults i k ≡ true
 unfolding zeroAt
-zero-here w faults i k z = eq-eqb _ 0 z
+zero-here sh w faults i k z = eq-eqb _ 0 z
 
-pub zero-not : (w : List ℕ) (faults : Bool) (i k : ℕ) → (cellWord w faults i k ≡ 0 → ⊥) → zeroAt w faults i k ≡ false
+pub zero-not : (sh : Shape) (w : List ℕ) (faults : Bool) (i k : ℕ) → (cellWord sh w faults i k ≡ 0 → ⊥) → zeroAt sh w faults i k ≡ false
 unfolding zeroAt
-zero-not w faults i k z = ne-eqb _ 0 z
+zero-not sh w faults i k z = ne-eqb _ 0 z

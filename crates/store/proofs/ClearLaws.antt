@@ -7,58 +7,64 @@ use native.Mathlib.Omega.{arith}
 use borrow.Author.Tests.{eq-eqb, ne-eqb}
 use lib.ListN.{length, getD, set}
 use lib.Seq.{getD-set-other}
+use Rattle.model.specs.Shape.{Shape}
 use Rattle.model.specs.Layout.{cellAt, follow, faultWord}
 use Rattle.model.specs.Meaning.{nextFault}
 use Rattle.model.specs.Words.{faultAt, clearWords, giveWords}
 use Rattle.model.proofs.Give.{clear-none, clear-step}
-use Rattle.store.specs.Cells.{Sized}
+use Rattle.store.specs.declared.cells.Header.{Header}
+use Rattle.store.specs.Cells.{shapeIn, Sized}
 use Rattle.store.specs.Search.{Ends}
 use Rattle.store.proofs.AlongLaws.{follow-length}
 use Rattle.store.proofs.EndsLaws.{ends-on, ends-frame, ends-less}
-use Rattle.store.proofs.WriteLaws.{sized-set, fault-past}
+use Rattle.store.proofs.CellLaws.{sized-set}
 
--- a word of a fault cell, by the card limit
-pub fault-read : {w : List ℕ} {c f : ℕ} → Sized w c f → (i k : ℕ) → faultWord w i k ≡ getD w (faultAt c i k) 0
-unfolding faultWord
-fault-read s i k = rw (s .limit)
-
-pub record Clearing (c f : ℕ) (w₀ : List ℕ) (first : ℕ) (w : List ℕ) (i : ℕ) : Type 0 where
-  pub sized : Sized w c f
-  pub ends : Ends f (nextFault w) i
+pub record Clearing (h : Header) (w₀ : List ℕ) (first : ℕ) (w : List ℕ) (i : ℕ) : Type 0 where
+  pub sized : Sized w h
+  pub ends : Ends (h .faults) (nextFault (shapeIn h) w) i
   pub fuel : ℕ
-  pub enough : length (follow f (nextFault w) i) ≤ fuel
-  pub same : clearWords fuel c w i ≡ clearWords f c w₀ first
+  pub enough : length (follow (h .faults) (nextFault (shapeIn h) w) i) ≤ fuel
+  pub same : clearWords fuel (shapeIn h) w i ≡ clearWords (h .faults) (shapeIn h) w₀ first
 
-pub clear-start : {w : List ℕ} {c f first : ℕ} → Sized w c f → Ends f (nextFault w) first → Clearing c f w first w first
-clear-start {w} {f = f} {first = first} s e = record { sized = s; ends = e; fuel = f; enough = follow-length f (nextFault w) first; same = refl }
+pub clear-start : {w : List ℕ} {h : Header} {first : ℕ} → Sized w h → Ends (h .faults) (nextFault (shapeIn h) w) first → Clearing h w first w first
+clear-start {w} {h} {first} s e = record { sized = s; ends = e; fuel = h .faults; enough = follow-length (h .faults) (nextFault (shapeIn h) w) first; same = refl }
 
-module _ {c f : ℕ} {w₀ : List ℕ} {first : ℕ} {w : List ℕ} {i : ℕ} (a : Clearing c f w₀ first w i) where
-  pub clear-end : i ≡ 0 → w ≡ clearWords f c w₀ first
-  clear-end z = sym (clear-none (a .fuel) c w) ∙ ap (clearWords (a .fuel) c w) (sym z) ∙ a .same
+module _ {h : Header} {w₀ : List ℕ} {first : ℕ} {w : List ℕ} {i : ℕ} (a : Clearing h w₀ first w i) where
+  abbrev sh : Shape
+  sh = shapeIn h
 
-  module _ (ne : i ≡ 0 → ⊥) {next : ℕ} {u v : List ℕ} (n : next ≡ faultWord w i 0) (e₁ : u ≡ set w (faultAt c i 1) 0) (e₂ : v ≡ set u (faultAt c i 2) 0) where
-    sized : Sized v c f
-    sized = sized-set (sized-set (a .sized) (faultAt c i 1) 0 (fault-past c i 1) e₁) (faultAt c i 2) 0 (fault-past c i 2) e₂
+  abbrev f : ℕ
+  f = h .faults
+
+  pub clear-end : i ≡ 0 → w ≡ clearWords (h .faults) (shapeIn h) w₀ first
+  clear-end z = sym (clear-none (a .fuel) sh w) ∙ ap (clearWords (a .fuel) sh w) (sym z) ∙ a .same
+
+  module _ (ne : i ≡ 0 → ⊥) {next : ℕ} {u v : List ℕ} (n : next ≡ faultWord (shapeIn h) w i 0) (e₁ : u ≡ set w (faultAt (shapeIn h) i 1) 0) (e₂ : v ≡ set u (faultAt (shapeIn h) i 2) 0) where
+    sized : Sized v h
+    sized = sized-set (sized-set (a .sized) (faultAt sh i 1) 0 e₁) (faultAt sh i 2) 0 e₂
 
     -- no next word is written
-    agree : (k : ℕ) → nextFault v k ≡ nextFault w k
-    unfolding cellAt
+    agree : (k : ℕ) → nextFault sh v k ≡ nextFault sh w k
+    unfolding faultWord cellAt
     agree k =
-        fault-read sized k 0
-        ∙ ap (λ (l : List ℕ). getD l (faultAt c k 0) 0) e₂ ∙ getD-set-other u (faultAt c i 2) (faultAt c k 0) 0 0 (omega arith)
-        ∙ ap (λ (l : List ℕ). getD l (faultAt c k 0) 0) e₁ ∙ getD-set-other w (faultAt c i 1) (faultAt c k 0) 0 0 (omega arith)
-        ∙ sym (fault-read (a .sized) k 0)
+        ap (λ (l : List ℕ). getD l (faultAt sh k 0) 0) e₂ ∙ getD-set-other u (faultAt sh i 2) (faultAt sh k 0) 0 0 (omega arith)
+        ∙ ap (λ (l : List ℕ). getD l (faultAt sh k 0) 0) e₁ ∙ getD-set-other w (faultAt sh i 1) (faultAt sh k 0) 0 0 (omega arith)
 
-    behind : (follow f (nextFault v) next ≡ follow f (nextFault w) (nextFault w i)) × Ends f (nextFault v) next
-    behind = rw n (ends-frame (ends-on (a .ends) ne .1) (nextFault v) (λ k p. agree k))
+    behind : (follow f (nextFault sh v) next ≡ follow f (nextFault sh w) (nextFault sh w i)) × Ends f (nextFault sh v) next
+    behind = rw n (ends-frame (ends-on (a .ends) ne .1) (nextFault sh v) (λ k p. agree k))
 
-    pub clear-less : length (follow f (nextFault v) next) < length (follow f (nextFault w) i)
+    pub clear-less : length (follow (h .faults) (nextFault (shapeIn h) v) next) < length (follow (h .faults) (nextFault (shapeIn h) w) i)
     clear-less = omega (arith, ap length (behind .0), ends-less (a .ends) ne)
 
-    pub clear-next : Clearing c f w₀ first v next
+    -- the next word, as it stands among the words
+    next-is : next ≡ getD w (faultAt sh i 0) 0
+    unfolding faultWord
+    next-is = n
+
+    pub clear-next : Clearing h w₀ first v next
     clear-next = go (a .fuel) (a .enough) (a .same)
       where
-        go : (fuel : ℕ) → length (follow f (nextFault w) i) ≤ fuel → clearWords fuel c w i ≡ clearWords f c w₀ first → Clearing c f w₀ first v next
+        go : (fuel : ℕ) → length (follow f (nextFault sh w) i) ≤ fuel → clearWords fuel sh w i ≡ clearWords f sh w₀ first → Clearing h w₀ first v next
         go zero b s = absurd (omega (arith, clear-less))
         go (suc fuel) b s =
             record {
@@ -66,16 +72,16 @@ module _ {c f : ℕ} {w₀ : List ℕ} {first : ℕ} {w : List ℕ} {i : ℕ} (a
               ends = behind .1;
               fuel = fuel;
               enough = omega (arith, clear-less);
-              same = rw (e₂, e₁, n, fault-read (a .sized) i 0) (sym (clear-step fuel c w i (omega arith)) ∙ s);
+              same = rw (e₂, e₁, next-is) (sym (clear-step fuel sh w i (omega arith)) ∙ s);
             }
 
 -- a history given back: none, or its cells cleared and put before the free ones
 
-pub give-none : (w : List ℕ) (i j : ℕ) → i ≡ 0 → w ≡ giveWords w i j
+pub give-none : (sh : Shape) (w : List ℕ) (i j : ℕ) → i ≡ 0 → w ≡ giveWords sh w i j
 unfolding giveWords
-give-none w i j z = rw (eq-eqb i 0 z)
+give-none sh w i j z = rw (eq-eqb i 0 z)
 
-pub give-is : {w : List ℕ} {c f : ℕ} → Sized w c f → (i j : ℕ) → (i ≡ 0 → ⊥) → {free : ℕ} {w₁ w₂ w₃ : List ℕ} → free ≡ getD w 8 0 → w₁ ≡ clearWords f c w i
-    → w₂ ≡ set w₁ (faultAt c j 0) free → w₃ ≡ set w₂ 8 i → w₃ ≡ giveWords w i j
+pub give-is : {w : List ℕ} {h : Header} → Sized w h → (i j : ℕ) → (i ≡ 0 → ⊥) → {free : ℕ} {w₁ w₂ w₃ : List ℕ} → free ≡ getD w 8 0 → w₁ ≡ clearWords (h .faults) (shapeIn h) w i
+    → w₂ ≡ set w₁ (faultAt (shapeIn h) j 0) free → w₃ ≡ set w₂ 8 i → w₃ ≡ giveWords (shapeIn h) w i j
 unfolding giveWords
-give-is s i j ne free e₁ e₂ e₃ = rw (e₃, e₂, e₁, free, ne-eqb i 0 ne, s .limit, s .faultLimit)
+give-is s i j ne free e₁ e₂ e₃ = rw (e₃, e₂, e₁, free, ne-eqb i 0 ne)

@@ -9,7 +9,8 @@ use Prim.Native.Nat.{ℕ, _+_, _≤_, _<_}
 use native.Mathlib.Omega.{arith}
 use lib.ListN.{length, getD}
 use Rattle.rules.proofs.Tests.{both, all-of}
-use Rattle.model.specs.Layout.{limitsOk, sound}
+use Rattle.model.specs.Shape.{Shape}
+use Rattle.model.specs.Layout.{shapeOk, shapeOf, sound}
 use Rattle.model.specs.Meaning.{Sound}
 use Rattle.model.specs.Calls.{scratchNeed, cleaned}
 use Rattle.model.proofs.Meaning.{sound-means}
@@ -30,48 +31,51 @@ same-answer false true f g = g (λ i. true)
 same-answer false false f g = λ i. false
 
 -- the numbers of the faults begin behind those of the cards
-faults-behind : (w : List ℕ) → baseOf w false + limitOf w false ≡ baseOf w true
+faults-behind : (sh : Shape) → baseOf sh false + limitOf sh false ≡ baseOf sh true
 unfolding baseOf limitOf
-faults-behind w = omega arith
+faults-behind sh = omega arith
 
 module _ (w scratch : List ℕ) (long : scratchNeed ≤ length scratch) where
+  abbrev sh : Shape
+  sh = shapeOf w
+
   abbrev clean : List ℕ
   clean = cleaned scratch
 
   -- the marks that the cards leave
   abbrev left : List ℕ
-  left = partOf w false clean .bytes
+  left = partOf sh w false clean .bytes
 
   clean-long : scratchNeed ≤ length clean
   clean-long = omega (arith, length-cleaned scratch long)
 
-  module _ (limits : limitsOk (getD w 1 0) (getD w 2 0) ≡ true) where
-    unmarked : (faults : Bool) (k : ℕ) → baseOf w faults ≤ k → k < baseOf w faults + limitOf w faults → markAt clean k ≡ false
-    unmarked faults k a b = none-marked scratch k (omega (arith, marks-fit w faults limits))
+  module _ (limits : shapeOk sh ≡ true) where
+    unmarked : (faults : Bool) (k : ℕ) → baseOf sh faults ≤ k → k < baseOf sh faults + limitOf sh faults → markAt clean k ≡ false
+    unmarked faults k a b = none-marked scratch k (omega (arith, marks-fit sh faults limits))
 
     left-long : scratchNeed ≤ length left
-    left-long = omega (arith, kept-part w false clean (marks-fit w false limits) clean-long, clean-long)
+    left-long = omega (arith, kept-part sh w false clean (marks-fit sh false limits) clean-long, clean-long)
 
-    left-unmarked : (k : ℕ) → baseOf w true ≤ k → k < baseOf w true + limitOf w true → markAt left k ≡ false
-    left-unmarked k a b = kept-part w false clean (marks-fit w false limits) clean-long .apart k (inr (omega (arith, faults-behind w))) ∙ unmarked true k a b
+    left-unmarked : (k : ℕ) → baseOf sh true ≤ k → k < baseOf sh true + limitOf sh true → markAt left k ≡ false
+    left-unmarked k a b = kept-part sh w false clean (marks-fit sh false limits) clean-long .apart k (inr (omega (arith, faults-behind sh))) ∙ unmarked true k a b
 
   checked-sound : checked w clean ≡ true → Sound w
   unfolding checked
   checked-sound e =
       let (f, e₁) = both (frontFits w) _ e in
-      let (c, h) = both (partOf w false clean .ok) (partOf w true left .ok) e₁ in
+      let (c, h) = both (partOf sh w false clean .ok) (partOf sh w true left .ok) e₁ in
       let front = front-is w f in
-      let limits = front .limits in
-      parts-sound w front (part-is w false clean (marks-fit w false limits) clean-long (unmarked limits false) c)
-      (part-is w true left (marks-fit w true limits) (left-long limits) (left-unmarked limits) h)
+      let limits = front .shape in
+      parts-sound sh w front (part-is sh w false clean (marks-fit sh false limits) clean-long (unmarked limits false) c)
+      (part-is sh w true left (marks-fit sh true limits) (left-long limits) (left-unmarked limits) h)
 
   sound-checked : Sound w → checked w clean ≡ true
   unfolding checked
   sound-checked s =
-      let limits = s .limits in
+      let limits = s .shape in
       all-of (is-front w s)
-      (all-of (is-part w false clean (marks-fit w false limits) clean-long (unmarked limits false) (sound-cards w s))
-      (is-part w true left (marks-fit w true limits) (left-long limits) (left-unmarked limits) (sound-faults w s)))
+      (all-of (is-part sh w false clean (marks-fit sh false limits) clean-long (unmarked limits false) (sound-cards sh w s))
+      (is-part sh w true left (marks-fit sh true limits) (left-long limits) (left-unmarked limits) (sound-faults sh w s)))
 
 pub checked-is-sound : (w scratch : List ℕ) → scratchNeed ≤ length scratch → checked w (cleaned scratch) ≡ sound w
 checked-is-sound w scratch long =

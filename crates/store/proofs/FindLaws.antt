@@ -13,9 +13,10 @@ use Rattle.rules.proofs.Tests.{by-cases, both, all-of, not-both}
 use Rattle.rules.specs.Code.{codeOf}
 use Rattle.rules.specs.Table.{addressOf}
 use Rattle.model.specs.Lists.{all, same}
+use Rattle.model.specs.Shape.{Shape, topOf}
 use Rattle.model.specs.Serial.{serialOk, validSerial}
 use Rattle.model.specs.Model.{Card, Store, bucket, addressIn, chainFor, is, found, before, comparisons, cellsOf, histories, historyIn}
-use Rattle.model.specs.Layout.{headOr, chained, cardWidth, segmentsAt, cardsAt, first, last, packed, cardCell, cardWord, goodCard, sound, decode}
+use Rattle.model.specs.Layout.{headOr, chained, cardWidth, segmentsAt, cardsAt, first, last, packed, cardCell, cardWord, goodCard, sound, decodeAs, decode}
 use Rattle.model.specs.Meaning.{nextCard, nextFault}
 use Rattle.model.proofs.Lists.{same-refl, same-eq, length-none, Every}
 use Rattle.model.proofs.Chains.{Stands, Stand}
@@ -25,8 +26,10 @@ use Rattle.model.proofs.Rep.{Rep, size-top}
 use Rattle.model.proofs.Sound.{sound-is}
 use Rattle.model.proofs.Look.{look-once, address-in}
 use Rattle.model.proofs.Cut.{Absent, Present, absent, present}
+use Rattle.model.proofs.Shapes.{in-card}
 use Rattle.model.proofs.Cases.{valid-serial}
-use Rattle.store.specs.Cells.{Read, packedAll}
+use Rattle.store.specs.declared.cells.Header.{Header}
+use Rattle.store.specs.Cells.{shapeIn, Read, packedAll}
 use Rattle.store.specs.Search.{Ends, hasKey, searchIn, searched, Finds, faultsFrom}
 use Rattle.store.specs.declared.search.Found.{Found}
 use Rattle.store.specs.declared.search.Spot.{Spot}
@@ -59,40 +62,40 @@ module _ (bytes : List ℕ) (n : ℕ) (v : validSerial bytes n ≡ true) where
       let p = padded n bytes z in
       λ i. ((p k i * 256 + p (k + 1) i) * 256 + p (k + 2) i) * 256 + p (k + 3) i
 
-  module _ (w : List ℕ) where
+  module _ (sh : Shape) (w : List ℕ) where
     pub key-is : (c : Card) (t : ℕ) → serialOk (c .serial) ≡ true
-        → Stands (cellIn w cardsAt cardWidth) cardWidth (record { at = c .at; words = t ∷ cardCell c .words }) → hasKey w (c .at) n (packedAll bytes) ≡ is (take n bytes) c
+        → Stands (cellIn w (cardsAt sh) (cardWidth sh)) (cardWidth sh) (record { at = c .at; words = t ∷ cardCell c .words }) → hasKey sh w (c .at) n (packedAll bytes) ≡ is (take n bytes) c
     unfolding hasKey cardWord cardCell
     key-is c t u q =
         by-cases (is (take n bytes) c)
         (λ k. let e = sym (same-eq (take n bytes) (c .serial) k) in
-        all-of (eq-eqb _ _ (q 1 (lit< tt) ∙ ap length e ∙ valid-length))
-        (all-of (eq-eqb _ _ (q 2 (lit< tt) ∙ ap (λ (l : List ℕ). packed l 0) e ∙ valid-packed 0))
-        (all-of (eq-eqb _ _ (q 3 (lit< tt) ∙ ap (λ (l : List ℕ). packed l 4) e ∙ valid-packed 4))
-        (all-of (eq-eqb _ _ (q 4 (lit< tt) ∙ ap (λ (l : List ℕ). packed l 8) e ∙ valid-packed 8))
-        (all-of (eq-eqb _ _ (q 5 (lit< tt) ∙ ap (λ (l : List ℕ). packed l 12) e ∙ valid-packed 12)) refl))))
+        all-of (eq-eqb _ _ (q 1 (in-card sh (lit< tt)) ∙ ap length e ∙ valid-length))
+        (all-of (eq-eqb _ _ (q 2 (in-card sh (lit< tt)) ∙ ap (λ (l : List ℕ). packed l 0) e ∙ valid-packed 0))
+        (all-of (eq-eqb _ _ (q 3 (in-card sh (lit< tt)) ∙ ap (λ (l : List ℕ). packed l 4) e ∙ valid-packed 4))
+        (all-of (eq-eqb _ _ (q 4 (in-card sh (lit< tt)) ∙ ap (λ (l : List ℕ). packed l 8) e ∙ valid-packed 8))
+        (all-of (eq-eqb _ _ (q 5 (in-card sh (lit< tt)) ∙ ap (λ (l : List ℕ). packed l 12) e ∙ valid-packed 12)) refl))))
         ∙ sym k)
-        (λ k. by-cases (hasKey w (c .at) n (packedAll bytes)) (λ e. absurd (differ k e)) (λ e. e ∙ sym k))
+        (λ k. by-cases (hasKey sh w (c .at) n (packedAll bytes)) (λ e. absurd (differ k e)) (λ e. e ∙ sym k))
       where
-        differ : is (take n bytes) c ≡ false → hasKey w (c .at) n (packedAll bytes) ≡ true → ⊥
+        differ : is (take n bytes) c ≡ false → hasKey sh w (c .at) n (packedAll bytes) ≡ true → ⊥
         differ k e =
-            let a = both (eqb (cardWord w (c .at) 1) n) _ e in
-            let b = both (eqb (cardWord w (c .at) 2) (packed bytes 0)) _ (a .1) in
-            let d = both (eqb (cardWord w (c .at) 3) (packed bytes 4)) _ (b .1) in
-            let f = both (eqb (cardWord w (c .at) 4) (packed bytes 8)) _ (d .1) in
-            let g = both (eqb (cardWord w (c .at) 5) (packed bytes 12)) _ (f .1) in
+            let a = both (eqb (cardWord sh w (c .at) 1) n) _ e in
+            let b = both (eqb (cardWord sh w (c .at) 2) (packed bytes 0)) _ (a .1) in
+            let d = both (eqb (cardWord sh w (c .at) 3) (packed bytes 4)) _ (b .1) in
+            let f = both (eqb (cardWord sh w (c .at) 4) (packed bytes 8)) _ (d .1) in
+            let g = both (eqb (cardWord sh w (c .at) 5) (packed bytes 12)) _ (f .1) in
             let z =
             same-words (take n bytes) (c .serial) (valid-serial bytes n v) u
-            (sym (q 1 (lit< tt)) ∙ eqb-true _ _ (a .0) ∙ sym valid-length)
-            (sym (q 2 (lit< tt)) ∙ eqb-true _ _ (b .0) ∙ sym (valid-packed 0))
-            (sym (q 3 (lit< tt)) ∙ eqb-true _ _ (d .0) ∙ sym (valid-packed 4))
-            (sym (q 4 (lit< tt)) ∙ eqb-true _ _ (f .0) ∙ sym (valid-packed 8))
-            (sym (q 5 (lit< tt)) ∙ eqb-true _ _ (g .0) ∙ sym (valid-packed 12)) in
+            (sym (q 1 (in-card sh (lit< tt))) ∙ eqb-true _ _ (a .0) ∙ sym valid-length)
+            (sym (q 2 (in-card sh (lit< tt))) ∙ eqb-true _ _ (b .0) ∙ sym (valid-packed 0))
+            (sym (q 3 (in-card sh (lit< tt))) ∙ eqb-true _ _ (d .0) ∙ sym (valid-packed 4))
+            (sym (q 4 (in-card sh (lit< tt))) ∙ eqb-true _ _ (f .0) ∙ sym (valid-packed 8))
+            (sym (q 5 (in-card sh (lit< tt))) ∙ eqb-true _ _ (g .0) ∙ sym (valid-packed 12)) in
             not-both (ap (same (take n bytes)) (sym z) ∙ same-refl (take n bytes)) k
 
     -- so of each card of a bucket
-    keys-are : (m p b : ℕ) (cs : List Card) → all (goodCard m p b) cs ≡ true → Stand (cellIn w cardsAt cardWidth) cardWidth (chained 0 (map cardCell cs))
-        → Every (λ c. hasKey w (c .at) n (packedAll bytes) ≡ is (take n bytes) c) cs
+    keys-are : (m p b : ℕ) (cs : List Card) → all (goodCard m p b) cs ≡ true → Stand (cellIn w (cardsAt sh) (cardWidth sh)) (cardWidth sh) (chained 0 (map cardCell cs))
+        → Every (λ c. hasKey sh w (c .at) n (packedAll bytes) ≡ is (take n bytes) c) cs
     unfolding goodCard cardCell
     keys-are m p b [] g q = tt
     keys-are m p b (c ∷ cs) g q =
@@ -100,31 +103,31 @@ module _ (bytes : List ℕ) (n : ℕ) (v : validSerial bytes n ≡ true) where
         (key-is c (headOr 0 (map cardCell cs)) (both (serialOk (c .serial)) _ (h .0) .0) (q .0), keys-are m p b cs (h .1) (q .1))
 
 -- the search of cards of which at most one has the serial
-search-is : (w y key : List ℕ) (len : ℕ) (cs : List Card) (n prev : ℕ) → Every (λ c. hasKey w (c .at) len key ≡ is y c) cs → length (found y cs) ≤ 1
-    → searchIn w len key (cellsOf cs) n prev
+search-is : (sh : Shape) (w y key : List ℕ) (len : ℕ) (cs : List Card) (n prev : ℕ) → Every (λ c. hasKey sh w (c .at) len key ≡ is y c) cs → length (found y cs) ≤ 1
+    → searchIn sh w len key (cellsOf cs) n prev
     ≡ record { held = ltb 0 (length (found y cs)); place = n + comparisons y cs; cell = first (cellsOf (found y cs)); prev = last (prev ∷ cellsOf (before y cs)) }
 unfolding comparisons last
-search-is w y key len [] n prev k h =
-    search-none w len key n prev ∙ (let e : n ≡ n + 0 = omega arith in λ i. record { held = false; place = e i; cell = 0; prev = prev })
-search-is w y key len (c ∷ cs) n prev k h =
+search-is sh w y key len [] n prev k h =
+    search-none sh w len key n prev ∙ (let e : n ≡ n + 0 = omega arith in λ i. record { held = false; place = e i; cell = 0; prev = prev })
+search-is sh w y key len (c ∷ cs) n prev k h =
     by-cases (is y c)
     (λ e. let z = length-none (found y cs) (omega (arith, rw e at h)) in
-    search-hit w len key (c .at) n prev (k .0 ∙ e) (cellsOf cs) ∙ rw (e, z))
+    search-hit sh w len key (c .at) n prev (k .0 ∙ e) (cellsOf cs) ∙ rw (e, z))
     (λ e. let g : n + 1 + (length (before y cs) + length (found y cs)) ≡ n + (suc (length (before y cs)) + length (found y cs)) = omega arith in
-    search-on w len key (c .at) n prev (k .0 ∙ e) (cellsOf cs) ∙ search-is w y key len cs (n + 1) (c .at) (k .1) (rw e at h) ∙ rw (e, g))
+    search-on sh w len key (c .at) n prev (k .0 ∙ e) (cellsOf cs) ∙ search-is sh w y key len cs (n + 1) (c .at) (k .1) (rw e at h) ∙ rw (e, g))
 
 -- what a search of the serial's bucket finds is what the store holds
 pub search-finds : {w : List ℕ} {s : Store} → Rep w s → (bytes : List ℕ) (n : ℕ) → validSerial bytes n ≡ true → (b : ℕ) (r : Found) → b ≡ addressIn s (take n bytes)
-    → r ≡ searched (s .limit) w (getD w (segmentsAt + b) 0) n (packedAll bytes)
+    → r ≡ searched (s .shape) w (getD w (segmentsAt (s .shape) + b) 0) n (packedAll bytes)
     → Finds s (take n bytes) (record { bucket = b; held = r .held; place = r .place; cell = r .cell; prev = r .prev })
 unfolding searched
 search-finds {w} {s} r bytes n v b o eb eo =
     let y = take n bytes in
     let chain = chainFor s y in
     let f =
-    eo ∙ ap (λ (b : ℕ). searched (s .limit) w (getD w (segmentsAt + b) 0) n (packedAll bytes)) eb
-    ∙ ap (λ (l : List ℕ). searchIn w n (packedAll bytes) l 0 0) (bucket-cells r (addressIn s y) (address-in s (r .fair) y))
-    ∙ search-is w y (packedAll bytes) n chain 0 0 (keys-are bytes n v w (s .maxp) (s .p) (addressIn s y) chain (r .fair .addressed (addressIn s y)) (bucket-stand r (addressIn s y))) (look-once s (r .fair) y) in
+    eo ∙ ap (λ (b : ℕ). searched (s .shape) w (getD w (segmentsAt (s .shape) + b) 0) n (packedAll bytes)) eb
+    ∙ ap (λ (l : List ℕ). searchIn (s .shape) w n (packedAll bytes) l 0 0) (bucket-cells r (addressIn s y) (address-in s (r .fair) y))
+    ∙ search-is (s .shape) w y (packedAll bytes) n chain 0 0 (keys-are bytes n v (s .shape) w (s .maxp) (s .p) (addressIn s y) chain (r .fair .addressed (addressIn s y)) (bucket-stand r (addressIn s y))) (look-once s (r .fair) y) in
     record {
       bucket-is = eb;
       held-is = ap (λ (o : Found). o .held) f;
@@ -217,43 +220,41 @@ module _ {w : List ℕ} {s : Store} (r : Rep w s) (y : List ℕ) {o : Spot} (f :
       }
 
 -- sound words, with their header read: the serial's bucket, its chain, and what is found there
-module _ (w : List ℕ) (e : sound w ≡ true) {c f m p : ℕ} (h : Read w c f m p) (bytes : List ℕ) (n : ℕ) where
-  pub sound-home : {code b : ℕ} → code ≡ codeOf (take n bytes) → b ≡ addressOf code m p → b ≡ addressIn (decode w) (take n bytes)
-  unfolding decode
-  sound-home ec eb = eb ∙ (λ i. addressOf (ec i) (sym (h .maxp) i) (sym (h .state) i))
+module _ (w : List ℕ) (e : sound w ≡ true) {h : Header} (r : Read w h) (bytes : List ℕ) (n : ℕ) where
+  pub sound-home : {code b : ℕ} → code ≡ codeOf (take n bytes) → b ≡ addressOf code (h .maxp) (h .p) → b ≡ addressIn (decode w) (take n bytes)
+  unfolding decodeAs
+  sound-home ec eb = eb ∙ (λ i. addressOf (ec i) (sym (r .maxp) i) (sym (r .state) i))
 
   module _ {b : ℕ} (at : b ≡ addressIn (decode w) (take n bytes)) where
     below : b < length (decode w .buckets)
     below = subst (λ (b : ℕ). b < length (decode w .buckets)) (sym at) (address-in (decode w) (sound-is w e .0 .fair) (take n bytes))
 
-    pub home-word : segmentsAt + b < length w
-    home-word = omega (arith, below, sound-is w e .0 .fair .number, size-top (decode w) (sound-is w e .0 .fair), h .sized .long)
+    pub home-below : b < h .top
+    home-below = omega (arith, below, sound-is w e .0 .fair .number, size-top (decode w) (sound-is w e .0 .fair), ap topOf (read-store r .0), r .sized .top)
 
-    pub home-ends : Ends c (nextCard w) (getD w (segmentsAt + b) 0)
-    unfolding decode
-    home-ends = subst (λ (c : ℕ). Ends c (nextCard w) (getD w (segmentsAt + b) 0)) (h .sized .limit) (bucket-ends (sound-is w e .0) b below)
+    pub home-ends : Ends (h .cards) (nextCard (shapeIn h) w) (getD w (segmentsAt (shapeIn h) + b) 0)
+    home-ends = subst (λ (sh : Shape). Ends (sh .limit) (nextCard sh w) (getD w (segmentsAt sh + b) 0)) (read-store r .0) (bucket-ends (sound-is w e .0) b below)
 
-    pub home-finds : validSerial bytes n ≡ true → (r : Found) → r ≡ searched c w (getD w (segmentsAt + b) 0) n (packedAll bytes)
-        → Finds (decode w) (take n bytes) (record { bucket = b; held = r .held; place = r .place; cell = r .cell; prev = r .prev })
-    unfolding decode
-    home-finds v r er =
-        search-finds (sound-is w e .0) bytes n v b r at (er ∙ ap (λ (c : ℕ). searched c w (getD w (segmentsAt + b) 0) n (packedAll bytes)) (sym (h .sized .limit)))
+    pub home-finds : validSerial bytes n ≡ true → (o : Found) → o ≡ searched (shapeIn h) w (getD w (segmentsAt (shapeIn h) + b) 0) n (packedAll bytes)
+        → Finds (decode w) (take n bytes) (record { bucket = b; held = o .held; place = o .place; cell = o .cell; prev = o .prev })
+    home-finds v o er =
+        search-finds (sound-is w e .0) bytes n v b o at (er ∙ ap (λ (sh : Shape). searched sh w (getD w (segmentsAt sh + b) 0) n (packedAll bytes)) (sym (read-store r .0)))
 
--- the cell of a card that is held, and the history that its words lead to, by the limits that the code read
-pub record HeldCell (w : List ℕ) (y : List ℕ) (c f i : ℕ) : Type 0 where
+-- the cell of a card that is held, and the history that its words lead to, by the header that the code read
+pub record HeldCell (w : List ℕ) (y : List ℕ) (h : Header) (i : ℕ) : Type 0 where
   pub from-one : 1 ≤ i
-  pub in-limit : i ≤ c
-  pub count-word : cardWord w i 8 ≡ length (historyIn (decode w) y)
-  pub history : faultsFrom f w (cardWord w i 6) ≡ historyIn (decode w) y
-  pub history-ends : Ends f (nextFault w) (cardWord w i 6)
+  pub in-limit : i ≤ h .cards
+  pub count-word : cardWord (shapeIn h) w i 8 ≡ length (historyIn (decode w) y)
+  pub history : faultsFrom (shapeIn h) w (cardWord (shapeIn h) w i 6) ≡ historyIn (decode w) y
+  pub history-ends : Ends (h .faults) (nextFault (shapeIn h) w) (cardWord (shapeIn h) w i 6)
 
-pub held-cell : {w : List ℕ} {c f m p : ℕ} {y : List ℕ} {o : Spot} → Read w c f m p → IsHeld w (decode w) y o → HeldCell w y c f (o .cell)
-held-cell {w} h k =
-    let l = read-store h in
+pub held-cell : {w : List ℕ} {h : Header} {y : List ℕ} {o : Spot} → Read w h → IsHeld w (decode w) y o → HeldCell w y h (o .cell)
+held-cell {w} r k =
+    let l = read-store r .0 in
     record {
       from-one = rw (k .cell-is) (k .stored .from-one);
-      in-limit = rw (k .cell-is, ← (l .0)) (k .stored .in-limit);
-      count-word = rw (k .cell-is, k .history-is) (k .stored .count-word);
-      history = rw (k .cell-is, ← (l .1), k .history-is) (k .stored .history);
-      history-ends = rw (k .cell-is, ← (l .1)) (k .stored .history-ends);
+      in-limit = rw (k .cell-is) (subst (λ (sh : Shape). k .present .card .at ≤ sh .limit) l (k .stored .in-limit));
+      count-word = rw (k .cell-is, k .history-is, ← l) (k .stored .count-word);
+      history = rw (k .cell-is, ← l, k .history-is) (k .stored .history);
+      history-ends = rw (k .cell-is) (subst (λ (sh : Shape). Ends (sh .faultLimit) (nextFault sh w) (cardWord sh w (k .present .card .at) 6)) l (k .stored .history-ends));
     }

@@ -6,20 +6,22 @@ use mathlib.Core.Logic.{⊎-elim}
 use mathlib.Core.Bool.{Bool, true, cond}
 use mathlib.Core.List.{List, [], _∷_, _++_, map, append-nil, append-assoc}
 use Prim.Native.Nat.{ℕ, zero, suc, _+_, _-_, _*_, _≤_, _<_}
-use native.Mathlib.Nat.{mul-le-mul-left}
+use native.Mathlib.Nat.{mul-le-mul, mul-le-mul-left}
 use native.Mathlib.Omega.{arith}
 use native.Mathlib.Numerals.{add-one}
 use borrow.Author.Tests.{eq-eqb, ne-eqb, lt-ltb, le-ltb}
 use borrow.Rule.Slice.PartMut.{midOf, postOf, putMid, mid-len, same-len-mid}
 use lib.Dec.{ltb}
-use lib.ListN.{length, getD, set, take, drop, replicate, drop-of-length-le, length-append, length-replicate}
+use lib.ListN.{length, getD, set, take, drop, replicate, drop-of-length-le, length-append, length-replicate, replicate-append-replicate}
 use lib.Seq.{take-all, take-at, length-take-le}
-use Rattle.rules.specs.Table.{least, top}
+use Rattle.rules.specs.Table.{least}
 use Rattle.rules.proofs.Tests.{eq?}
 use Rattle.model.specs.Lists.{join, from}
+use Rattle.model.specs.Shape.{Shape, segmentSize, entries, topOf}
 use Rattle.model.specs.Model.{Card, Store, fresh}
-use Rattle.model.specs.Layout.{Cell, format, directoryAt, segmentsAt, segmentSize, limitsOk, cardWidth, faultWidth, freeCell, cardCell, faultCell, chained, headOr, wordsOf, part, cardChains, faultChains, cardsAt, faultsAt, lengthFor, header, directory, segments, front, encode}
-use Rattle.model.proofs.Fair.{limits-of}
+use Rattle.model.specs.Layout.{Cell, directoryAt, segmentsAt, shapeOk, boundsWord, ruleWord, cardWidth, faultWidth, freeCell, cardCell, faultCell, chained, headOr, wordsOf, part, cardChains, faultChains, cardsAt, faultsAt, lengthFor, header, directory, segments, front, encode}
+use Rattle.model.proofs.Shapes.{shaped, entries-some, width-nine, width-most, top-most}
+use Rattle.model.proofs.Rep.{directory-length}
 use Rattle.store.specs.Fresh.{behind, leading, cellsTo}
 
 -- a list filled to its end
@@ -103,12 +105,12 @@ cell-laid {w} {long} {at} width n i r z h p next b e =
     (length-lead width (behind n (i + 1)) z ∙ omega arith))
 
 -- words 0 to 15
-pub header-fresh : (c f : ℕ) → limitsOk c f ≡ true
-    → header (fresh c f) ≡ format ∷ c ∷ f ∷ least ∷ 0 ∷ 0 ∷ 0 ∷ 1 ∷ 1 ∷ directoryAt ∷ segmentsAt ∷ cardsAt ∷ faultsAt c ∷ lengthFor c f ∷ 0 ∷ 0 ∷ []
+pub header-fresh : (sh : Shape) → shapeOk sh ≡ true
+    → header (fresh sh) ≡ sh .format ∷ sh .limit ∷ sh .faultLimit ∷ least ∷ 0 ∷ 0 ∷ 0 ∷ 1 ∷ 1 ∷ directoryAt ∷ segmentsAt sh ∷ cardsAt sh ∷ faultsAt sh ∷ lengthFor sh ∷ boundsWord sh ∷ ruleWord sh ∷ []
 unfolding header fresh
-header-fresh c f t =
-    let l = limits-of c f t in
-    λ k. format ∷ c ∷ f ∷ least ∷ 0 ∷ 0 ∷ 0 ∷ first-of c (l .some) k ∷ first-of f (l .someFaults) k ∷ directoryAt ∷ segmentsAt ∷ cardsAt ∷ faultsAt c ∷ lengthFor c f ∷ 0 ∷ 0 ∷ []
+header-fresh sh t =
+    let l = shaped sh t in
+    λ k. sh .format ∷ sh .limit ∷ sh .faultLimit ∷ least ∷ 0 ∷ 0 ∷ 0 ∷ first-of (sh .limit) (l .some) k ∷ first-of (sh .faultLimit) (l .someFaults) k ∷ directoryAt ∷ segmentsAt sh ∷ cardsAt sh ∷ faultsAt sh ∷ lengthFor sh ∷ boundsWord sh ∷ ruleWord sh ∷ []
   where
     first-of : (n : ℕ) → 1 ≤ n → getD (from 1 n) 0 0 ≡ 1
     first-of zero h = absurd (omega arith)
@@ -118,20 +120,28 @@ pub header-length : (s : Store) → length (header s) ≡ directoryAt
 unfolding header
 header-length s = refl
 
--- words 16 to 31, and words 32 to 287
-pub directory-fresh : (c f : ℕ) → leading segmentSize segmentsAt ≡ directory (fresh c f)
+-- the directory and the segments: one segment is in use
+table-zeros : (f : ℕ → ℕ) (a n : ℕ) → ((k : ℕ) → a ≤ k → f k ≡ 0) → map f (from a n) ≡ replicate n 0
+table-zeros f a zero h = refl
+table-zeros f a (suc n) h = λ i. h a (omega arith) i ∷ table-zeros f (suc a) n (λ k l. h k (omega arith)) i
+
+pub directory-fresh : (sh : Shape) → leading (entries sh) (segmentsAt sh) ≡ directory (fresh sh)
 unfolding leading directory fresh
-directory-fresh c f = refl
+directory-fresh sh =
+    let g = entries-some sh in
+    let e : entries sh ≡ suc (entries sh - 1) = omega arith in
+    let z : segmentsAt sh + segmentSize * 0 ≡ segmentsAt sh = omega arith in
+    sym (ap (λ (n : ℕ). map (λ k. cond (ltb (segmentSize * k) 16) (segmentsAt sh + segmentSize * k) 0) (from 0 n)) e
+    ∙ (λ i. z i ∷ table-zeros (λ k. cond (ltb (segmentSize * k) 16) (segmentsAt sh + segmentSize * k) 0) 1 (entries sh - 1) (λ k l. rw (le-ltb (segmentSize * k) 16 (omega arith))) i))
 
-pub directory-length : (s : Store) → length (directory s) ≡ segmentSize
-unfolding directory
-directory-length s = refl
-
-pub segments-fresh : (c f n : ℕ) → n ≡ top → replicate n 0 ≡ segments (fresh c f)
+pub segments-fresh : (sh : Shape) (n : ℕ) → n ≡ topOf sh → replicate n 0 ≡ segments (fresh sh)
 unfolding segments fresh
-segments-fresh c f n e = ap (λ (m : ℕ). replicate m 0) e
+segments-fresh sh n e =
+    let g = entries-some sh in
+    let z : n ≡ 16 + (topOf sh - 16) = omega (arith, e) in
+    ap (λ (m : ℕ). replicate {A = ℕ} m 0) z ∙ sym (replicate-append-replicate {A = ℕ} 16 (topOf sh - 16) 0)
 
-pub head-length : (s : Store) → length (header s ++ directory s) ≡ segmentsAt
+pub head-length : (s : Store) → length (header s ++ directory s) ≡ segmentsAt (s .shape)
 head-length s = length-append (header s) (directory s) ∙ omega (arith, header-length s, directory-length s)
 
 -- cell i of the free cells a to n, in a chain and behind it other cells
@@ -165,23 +175,53 @@ cells-part width n rest =
     (map-same (λ i. leading width (behind n i)) (wordsOf (chained 0 (map (freeCell width) (from 1 n)) ++ join (map (chained 0) rest))) 1 n
     (λ i p q. sym (words-at width n 1 n i (join (map (chained 0) rest)) (omega arith) p (omega arith))))
 
-card-cells : (c f : ℕ) → cellsTo cardWidth c c ≡ part (cardChains (fresh c f)) c
+card-cells : (sh : Shape) → cellsTo (cardWidth sh) (sh .limit) (sh .limit) ≡ part (cardChains (fresh sh)) (sh .limit)
 unfolding fresh
-card-cells c f = cells-part cardWidth c (map (map cardCell) (fresh c f .buckets))
+card-cells sh = cells-part (cardWidth sh) (sh .limit) (map (map cardCell) (fresh sh .buckets))
 
-fault-cells : (c f : ℕ) → cellsTo faultWidth f f ≡ part (faultChains (fresh c f)) f
+fault-cells : (sh : Shape) → cellsTo faultWidth (sh .faultLimit) (sh .faultLimit) ≡ part (faultChains (fresh sh)) (sh .faultLimit)
 unfolding fresh
-fault-cells c f = cells-part faultWidth f (map (λ (x : Card). map faultCell (x .faults)) (join (fresh c f .buckets)))
+fault-cells sh = cells-part faultWidth (sh .faultLimit) (map (λ (x : Card). map faultCell (x .faults)) (join (fresh sh .buckets)))
 
 pub cells-length : (width n i : ℕ) → 0 < width → length (cellsTo width n i) ≡ width * i
 unfolding cellsTo
 cells-length width n i h = join-length width (λ k. leading width (behind n k)) 1 i (λ k. length-lead width (behind n k) h)
 
 -- the parts one behind another are the encoding of a fresh store
-pub fresh-words : (c f : ℕ)
-    → (((header (fresh c f) ++ directory (fresh c f)) ++ segments (fresh c f)) ++ cellsTo cardWidth c c) ++ cellsTo faultWidth f f ≡ encode (fresh c f)
+pub fresh-words : (sh : Shape)
+    → (((header (fresh sh) ++ directory (fresh sh)) ++ segments (fresh sh)) ++ cellsTo (cardWidth sh) (sh .limit) (sh .limit)) ++ cellsTo faultWidth (sh .faultLimit) (sh .faultLimit)
+    ≡ encode (fresh sh)
 unfolding encode front fresh
-fresh-words c f =
-    let s = fresh c f in
-    append-assoc ((header s ++ directory s) ++ segments s) (cellsTo cardWidth c c) (cellsTo faultWidth f f)
-    ∙ (λ k. append-assoc (header s) (directory s) (segments s) k ++ (card-cells c f k ++ fault-cells c f k))
+fresh-words sh =
+    let s = fresh sh in
+    append-assoc ((header s ++ directory s) ++ segments s) (cellsTo (cardWidth sh) (sh .limit) (sh .limit)) (cellsTo faultWidth (sh .faultLimit) (sh .faultLimit))
+    ∙ (λ k. append-assoc (header s) (directory s) (segments s) k ++ (card-cells sh k ++ fault-cells sh k))
+
+-- where the parts of a shape begin, and that they are few words
+pub record Spans (sh : Shape) : Type 0 where
+  pub head : segmentsAt sh ≡ 16 + entries sh
+  pub some : 16 ≤ entries sh
+  pub table : cardsAt sh ≡ segmentsAt sh + topOf sh
+  pub cards : faultsAt sh ≡ cardsAt sh + cardWidth sh * sh .limit
+  pub faults : lengthFor sh ≡ faultsAt sh + 3 * sh .faultLimit
+  pub few : lengthFor sh < 65536
+  pub wide : 0 < cardWidth sh
+
+pub spans : (sh : Shape) → shapeOk sh ≡ true → Spans sh
+unfolding lengthFor faultsAt cardsAt
+spans sh t =
+    let k = shaped sh t in
+    let m : cardWidth sh * sh .limit ≤ 9216 = mul-le-mul {n₂ = 9} {m₂ = 1024} (width-most sh) (k .most) in
+    record {
+      head = refl;
+      some = entries-some sh;
+      table = refl;
+      cards = refl;
+      faults = refl;
+      few = omega (arith, m, top-most sh, k .mostFaults);
+      wide = omega (arith, width-nine sh);
+    }
+
+pub fresh-shape : (sh : Shape) → fresh sh .shape ≡ sh
+unfolding fresh
+fresh-shape sh = refl

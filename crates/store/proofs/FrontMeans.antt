@@ -1,128 +1,132 @@
 -- What the checker finds right before the cells: header, load, directory and bucket words from B on, each test as the clause of `Sound` that
--- it decides (`front-is`, `is-front`). The length is tested first, so that the words are there to be read; it follows from the limits.
-use mathlib.Core.Path.{_≡_, sym, _∙_}
+-- it decides (`front-is`, `is-front`). The header's words are tested to be there first; that follows from the shape and the length.
+use mathlib.Core.Path.{_≡_, refl, sym, _∙_}
 use mathlib.Core.Logic.{_⊎_, inl, inr, ⊎-elim}
 use mathlib.Core.Bool.{Bool, true, _||_}
 use mathlib.Core.List.{List}
-use Prim.Native.Nat.{ℕ, _+_, _-_, _*_, _/_, _≤_, _<_}
+use Prim.Native.Nat.{ℕ, _+_, _-_, _*_, _≤_, _<_}
 use native.Mathlib.Omega.{arith}
 use borrow.Author.Tests.{eqb-true, eq-eqb, leb-true, le-leb, ltb-true, ltb-false, lt-ltb, le-ltb}
 use lib.Dec.{eqb, leb, ltb}
 use lib.ListN.{length, getD}
-use Rattle.rules.specs.Table.{least, top, upper, lower, stateOk}
+use Rattle.rules.specs.Table.{least, stateOk}
 use Rattle.rules.proofs.Tests.{by-cases, both, all-of, either}
 use Rattle.rules.proofs.States.{state-of}
-use Rattle.model.specs.Layout.{format, directoryAt, segmentsAt, segmentSize, cardsAt, faultsAt, lengthFor, limitsOk}
-use Rattle.model.specs.Meaning.{limitIn, faultLimitIn, bucketsIn, bucketWord, Sound}
+use Rattle.model.specs.Shape.{Shape, segmentSize, entries, topOf}
+use Rattle.model.specs.Layout.{directoryAt, segmentsAt, cardsAt, faultsAt, lengthFor, boundsWord, ruleWord, shapeOk, shapeOf}
+use Rattle.model.specs.Meaning.{bucketsIn, bucketWord, Sound}
 use Rattle.model.proofs.Lists.{all-from, from-all}
-use Rattle.store.specs.Checker.{limitsFit, offsetsFit, loadFits, entryFor, directoryFits, restFits, frontFits}
+use Rattle.store.specs.Checker.{limitsFit, offsetsFit, endsFit, loadFits, entryFor, directoryFits, restFits, frontFits}
+use Rattle.store.proofs.FrontLaws.{fit-is, offsets-are}
 
 -- the clauses of `Sound` that tell of the words before the cells
-pub record Front (w : List ℕ) : Type 0 where
-  pub formatWord : getD w 0 0 ≡ format
-  pub limits : limitsOk (limitIn w) (faultLimitIn w) ≡ true
-  pub state : stateOk (getD w 3 0) (getD w 4 0) ≡ true
+pub record Front (sh : Shape) (w : List ℕ) : Type 0 where
+  pub formatWord : getD w 0 0 ≡ sh .format
+  pub limitWord : getD w 1 0 ≡ sh .limit
+  pub faultLimitWord : getD w 2 0 ≡ sh .faultLimit
+  pub shape : shapeOk sh ≡ true
+  pub state : stateOk (topOf sh) (getD w 3 0) (getD w 4 0) ≡ true
   pub directoryOffset : getD w 9 0 ≡ directoryAt
-  pub segmentsOffset : getD w 10 0 ≡ segmentsAt
-  pub cardsOffset : getD w 11 0 ≡ cardsAt
-  pub faultsOffset : getD w 12 0 ≡ faultsAt (limitIn w)
-  pub lengthWord : getD w 13 0 ≡ lengthFor (limitIn w) (faultLimitIn w)
-  pub word14 : getD w 14 0 ≡ 0
-  pub word15 : getD w 15 0 ≡ 0
-  pub wholeLength : length w ≡ lengthFor (limitIn w) (faultLimitIn w)
-  pub directoryUsed : (k : ℕ) → k < top / segmentSize → segmentSize * k < bucketsIn w → getD w (directoryAt + k) 0 ≡ segmentsAt + segmentSize * k
-  pub directoryUnused : (k : ℕ) → k < top / segmentSize → bucketsIn w ≤ segmentSize * k → getD w (directoryAt + k) 0 ≡ 0
-  pub notOver : getD w 5 0 ≤ upper * bucketsIn w
-  pub notUnder : (bucketsIn w ≡ least) ⊎ (lower * bucketsIn w ≤ getD w 5 0)
-  pub unusedZero : (b : ℕ) → bucketsIn w ≤ b → b < top → bucketWord w b ≡ 0
+  pub segmentsOffset : getD w 10 0 ≡ segmentsAt sh
+  pub cardsOffset : getD w 11 0 ≡ cardsAt sh
+  pub faultsOffset : getD w 12 0 ≡ faultsAt sh
+  pub lengthWord : getD w 13 0 ≡ lengthFor sh
+  pub word14 : getD w 14 0 ≡ boundsWord sh
+  pub word15 : getD w 15 0 ≡ ruleWord sh
+  pub wholeLength : length w ≡ lengthFor sh
+  pub directoryUsed : (k : ℕ) → k < entries sh → segmentSize * k < bucketsIn w → getD w (directoryAt + k) 0 ≡ segmentsAt sh + segmentSize * k
+  pub directoryUnused : (k : ℕ) → k < entries sh → bucketsIn w ≤ segmentSize * k → getD w (directoryAt + k) 0 ≡ 0
+  pub notOver : (bucketsIn w ≡ topOf sh) ⊎ (getD w 5 0 ≤ sh .upper * bucketsIn w)
+  pub notUnder : (bucketsIn w ≡ least) ⊎ (sh .lower * bucketsIn w ≤ getD w 5 0)
+  pub unusedZero : (b : ℕ) → bucketsIn w ≤ b → b < topOf sh → bucketWord sh w b ≡ 0
 
-entry-used : (b k : ℕ) → segmentSize * k < b → entryFor b k ≡ segmentsAt + segmentSize * k
+entry-used : (segments b k : ℕ) → segmentSize * k < b → entryFor segments b k ≡ segments + segmentSize * k
 unfolding entryFor
-entry-used b k h = rw (lt-ltb (segmentSize * k) b h)
+entry-used segments b k h = rw (lt-ltb (segmentSize * k) b h)
 
-entry-unused : (b k : ℕ) → b ≤ segmentSize * k → entryFor b k ≡ 0
+entry-unused : (segments b k : ℕ) → b ≤ segmentSize * k → entryFor segments b k ≡ 0
 unfolding entryFor
-entry-unused b k h = rw (le-ltb (segmentSize * k) b h)
+entry-unused segments b k h = rw (le-ltb (segmentSize * k) b h)
 
-front-fits : (c f : ℕ) → cardsAt ≤ lengthFor c f
-unfolding lengthFor faultsAt
-front-fits c f = omega arith
+pub head-fits : (sh : Shape) → directoryAt ≤ lengthFor sh
+unfolding lengthFor faultsAt cardsAt
+head-fits sh = omega arith
 
 module _ (w : List ℕ) where
+  abbrev sh : Shape
+  sh = shapeOf w
+
+  abbrev b : ℕ
+  b = bucketsIn w
+
+  abbrev n : ℕ
+  n = getD w 5 0
+
   entry-right : ℕ → Bool
-  entry-right k = eqb (getD w (directoryAt + k) 0) (entryFor (bucketsIn w) k)
+  entry-right k = eqb (getD w (directoryAt + k) 0) (entryFor (segmentsAt sh) b k)
 
   bucket-empty : ℕ → Bool
-  bucket-empty j = eqb (getD w (segmentsAt + j) 0) 0
+  bucket-empty j = eqb (getD w (segmentsAt sh + j) 0) 0
 
-  pub front-is : frontFits w ≡ true → Front w
-  unfolding frontFits limitsFit offsetsFit loadFits directoryFits restFits entry-right bucket-empty
+  pub front-is : frontFits w ≡ true → Front (shapeOf w) w
+  unfolding frontFits loadFits directoryFits restFits entry-right bucket-empty shapeOf
   front-is e =
-      let c = limitIn w in
-      let f = faultLimitIn w in
-      let b = bucketsIn w in
       let (limits, e₁) = both (limitsFit w) _ e in
-      let (state, e₂) = both (stateOk (getD w 3 0) (getD w 4 0)) _ e₁ in
-      let (offsets, e₃) = both (offsetsFit w) _ e₂ in
-      let (load, e₄) = both (loadFits (getD w 5 0) b) _ e₃ in
-      let (entries, rest) = both (directoryFits w b) (restFits w b) e₄ in
-      let (_, l₁) = both (leb cardsAt (length w)) _ limits in
-      let (l₂, l₃) = both (eqb (getD w 0 0) format) _ l₁ in
-      let (l₄, l₅) = both (limitsOk c f) (eqb (length w) (lengthFor c f)) l₃ in
-      let (o₉, o₁) = both (eqb (getD w 9 0) directoryAt) _ offsets in
-      let (o₁₀, o₂) = both (eqb (getD w 10 0) segmentsAt) _ o₁ in
-      let (o₁₁, o₃) = both (eqb (getD w 11 0) cardsAt) _ o₂ in
-      let (o₁₂, o₄) = both (eqb (getD w 12 0) (faultsAt c)) _ o₃ in
-      let (o₁₃, o₅) = both (eqb (getD w 13 0) (lengthFor c f)) _ o₄ in
-      let (o₁₄, o₁₅) = both (eqb (getD w 14 0) 0) (eqb (getD w 15 0) 0) o₅ in
-      let (n₁, n₂) = both (leb (getD w 5 0) (upper * b)) (eqb b least || leb (lower * b) (getD w 5 0)) load in
-      let entry : (k : ℕ) → k < top / segmentSize → getD w (directoryAt + k) 0 ≡ entryFor b k =
-      λ k h. eqb-true (getD w (directoryAt + k) 0) (entryFor b k) (all-from entry-right 0 (top / segmentSize) entries k (omega arith) h) in
+      let (offsets, e₂) = both (offsetsFit w) _ e₁ in
+      let (state, e₃) = both (stateOk (topOf sh) (getD w 3 0) (getD w 4 0)) _ e₂ in
+      let (load, e₄) = both (loadFits sh n b) _ e₃ in
+      let (entries-ok, rest) = both (directoryFits sh w b) (restFits sh w b) e₄ in
+      let fit = fit-is w limits in
+      let at = offsets-are w offsets in
+      let room = state-of (topOf sh) (getD w 3 0) (getD w 4 0) state .room in
+      let (n₁, n₂) = both (leb n (sh .upper * b) || leb (topOf sh) b) (eqb b least || leb (sh .lower * b) n) load in
+      let entry : (k : ℕ) → k < entries sh → getD w (directoryAt + k) 0 ≡ entryFor (segmentsAt sh) b k =
+      λ k h. eqb-true (getD w (directoryAt + k) 0) (entryFor (segmentsAt sh) b k) (all-from entry-right 0 (entries sh) entries-ok k (omega arith) (omega arith)) in
       record {
-        formatWord = eqb-true (getD w 0 0) format l₂;
-        limits = l₄;
+        formatWord = refl;
+        limitWord = refl;
+        faultLimitWord = refl;
+        shape = fit .ok;
         state = state;
-        directoryOffset = eqb-true (getD w 9 0) directoryAt o₉;
-        segmentsOffset = eqb-true (getD w 10 0) segmentsAt o₁₀;
-        cardsOffset = eqb-true (getD w 11 0) cardsAt o₁₁;
-        faultsOffset = eqb-true (getD w 12 0) (faultsAt c) o₁₂;
-        lengthWord = eqb-true (getD w 13 0) (lengthFor c f) o₁₃;
-        word14 = eqb-true (getD w 14 0) 0 o₁₄;
-        word15 = eqb-true (getD w 15 0) 0 o₁₅;
-        wholeLength = eqb-true (length w) (lengthFor c f) l₅;
-        directoryUsed = λ k h u. entry k h ∙ entry-used b k u;
-        directoryUnused = λ k h u. entry k h ∙ entry-unused b k u;
-        notOver = leb-true (getD w 5 0) (upper * b) n₁;
-        notUnder = ⊎-elim (λ t. inl (eqb-true b least t)) (λ t. inr (leb-true (lower * b) (getD w 5 0) t)) (either (eqb b least) (leb (lower * b) (getD w 5 0)) n₂);
-        unusedZero = λ j l h. eqb-true (getD w (segmentsAt + j) 0) 0 (all-from bucket-empty b (top - b) rest j l (omega arith));
+        directoryOffset = at .directory;
+        segmentsOffset = at .segments;
+        cardsOffset = at .base;
+        faultsOffset = at .behind;
+        lengthWord = at .whole;
+        word14 = at .bounds;
+        word15 = at .rule;
+        wholeLength = fit .long;
+        directoryUsed = λ k h u. entry k h ∙ entry-used (segmentsAt sh) b k u;
+        directoryUnused = λ k h u. entry k h ∙ entry-unused (segmentsAt sh) b k u;
+        notOver = ⊎-elim (λ t. inr (leb-true n (sh .upper * b) t)) (λ t. inl (omega (arith, room, leb-true (topOf sh) b t))) (either (leb n (sh .upper * b)) (leb (topOf sh) b) n₁);
+        notUnder = ⊎-elim (λ t. inl (eqb-true b least t)) (λ t. inr (leb-true (sh .lower * b) n t)) (either (eqb b least) (leb (sh .lower * b) n) n₂);
+        unusedZero = λ j l h. eqb-true (getD w (segmentsAt sh + j) 0) 0 (all-from bucket-empty b (topOf sh - b) rest j l (omega arith));
       }
 
   pub is-front : Sound w → frontFits w ≡ true
-  unfolding frontFits limitsFit offsetsFit loadFits directoryFits restFits entry-right bucket-empty
+  unfolding frontFits limitsFit offsetsFit endsFit loadFits directoryFits restFits entry-right bucket-empty
   is-front s =
-      let c = limitIn w in
-      let f = faultLimitIn w in
-      let b = bucketsIn w in
-      all-of (all-of (le-leb cardsAt (length w) room) (all-of (eq-eqb (getD w 0 0) format (s .formatWord)) (all-of (s .limits) (eq-eqb (length w) (lengthFor c f) (s .wholeLength)))))
-      (all-of (s .state)
+      all-of (all-of (le-leb directoryAt (length w) (omega (arith, s .wholeLength, head-fits sh))) (all-of (s .shape) (eq-eqb (length w) (lengthFor sh) (s .wholeLength))))
       (all-of (all-of (eq-eqb (getD w 9 0) directoryAt (s .directoryOffset))
-      (all-of (eq-eqb (getD w 10 0) segmentsAt (s .segmentsOffset))
-      (all-of (eq-eqb (getD w 11 0) cardsAt (s .cardsOffset))
-      (all-of (eq-eqb (getD w 12 0) (faultsAt c) (s .faultsOffset))
-      (all-of (eq-eqb (getD w 13 0) (lengthFor c f) (s .lengthWord)) (all-of (eq-eqb (getD w 14 0) 0 (s .word14)) (eq-eqb (getD w 15 0) 0 (s .word15))))))))
-      (all-of (all-of (le-leb (getD w 5 0) (upper * b) (s .notOver)) (under (s .notUnder)))
-      (all-of (from-all entry-right 0 (top / segmentSize) (λ k l h. eq-eqb (getD w (directoryAt + k) 0) (entryFor b k) (entry k h)))
-      (from-all bucket-empty b (top - b) (λ j l h. eq-eqb (getD w (segmentsAt + j) 0) 0 (s .unusedZero j l (omega (arith, state-of (getD w 3 0) (getD w 4 0) (s .state) .room)))))))))
+      (all-of (eq-eqb (getD w 10 0) (segmentsAt sh) (s .segmentsOffset))
+      (all-of (eq-eqb (getD w 11 0) (cardsAt sh) (s .cardsOffset))
+      (all-of (eq-eqb (getD w 12 0) (faultsAt sh) (s .faultsOffset))
+      (all-of (eq-eqb (getD w 13 0) (lengthFor sh) (s .lengthWord)) (all-of (eq-eqb (getD w 14 0) (boundsWord sh) (s .word14)) (eq-eqb (getD w 15 0) (ruleWord sh) (s .word15))))))))
+      (all-of (s .state)
+      (all-of (all-of (over (s .notOver)) (under (s .notUnder)))
+      (all-of (from-all entry-right 0 (entries sh) (λ k l h. eq-eqb (getD w (directoryAt + k) 0) (entryFor (segmentsAt sh) b k) (entry k (omega arith))))
+      (from-all bucket-empty b (topOf sh - b) (λ j l h. eq-eqb (getD w (segmentsAt sh + j) 0) 0 (s .unusedZero j l (omega (arith, state-of (topOf sh) (getD w 3 0) (getD w 4 0) (s .state) .room)))))))))
     where
-      room : cardsAt ≤ length w
-      room = omega (arith, s .wholeLength, front-fits (limitIn w) (faultLimitIn w))
+      over : (b ≡ topOf sh) ⊎ (n ≤ sh .upper * b) → (leb n (sh .upper * b) || leb (topOf sh) b) ≡ true
+      over (inl e) = by-cases (leb n (sh .upper * b)) (λ t. rw t) (λ t. rw t (le-leb (topOf sh) b (omega (arith, e))))
+      over (inr h) = rw (le-leb n (sh .upper * b) h)
 
-      under : (bucketsIn w ≡ least) ⊎ (lower * bucketsIn w ≤ getD w 5 0) → (eqb (bucketsIn w) least || leb (lower * bucketsIn w) (getD w 5 0)) ≡ true
-      under (inl e) = rw (eq-eqb (bucketsIn w) least e)
-      under (inr h) = by-cases (eqb (bucketsIn w) least) (λ e. rw e) (λ e. rw e (le-leb (lower * bucketsIn w) (getD w 5 0) h))
+      under : (b ≡ least) ⊎ (sh .lower * b ≤ n) → (eqb b least || leb (sh .lower * b) n) ≡ true
+      under (inl e) = rw (eq-eqb b least e)
+      under (inr h) = by-cases (eqb b least) (λ e. rw e) (λ e. rw e (le-leb (sh .lower * b) n h))
 
-      entry : (k : ℕ) → k < top / segmentSize → getD w (directoryAt + k) 0 ≡ entryFor (bucketsIn w) k
+      entry : (k : ℕ) → k < entries sh → getD w (directoryAt + k) 0 ≡ entryFor (segmentsAt sh) b k
       entry k h =
-          by-cases (ltb (segmentSize * k) (bucketsIn w))
-          (λ t. s .directoryUsed k h (ltb-true (segmentSize * k) (bucketsIn w) t) ∙ sym (entry-used (bucketsIn w) k (ltb-true (segmentSize * k) (bucketsIn w) t)))
-          (λ t. s .directoryUnused k h (ltb-false (segmentSize * k) (bucketsIn w) t) ∙ sym (entry-unused (bucketsIn w) k (ltb-false (segmentSize * k) (bucketsIn w) t)))
+          by-cases (ltb (segmentSize * k) b)
+          (λ t. s .directoryUsed k h (ltb-true (segmentSize * k) b t) ∙ sym (entry-used (segmentsAt sh) b k (ltb-true (segmentSize * k) b t)))
+          (λ t. s .directoryUnused k h (ltb-false (segmentSize * k) b t) ∙ sym (entry-unused (segmentsAt sh) b k (ltb-false (segmentSize * k) b t)))

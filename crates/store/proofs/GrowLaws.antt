@@ -9,25 +9,27 @@ use native.Mathlib.Omega.{arith}
 use lib.Dec.{lit<}
 use lib.ListN.{length, getD}
 use borrow.Author.Tests.{eq-eqb, le-leb}
-use Rattle.rules.specs.Table.{top, stateOk, splits, contracts, lowP}
+use Rattle.rules.specs.Table.{splits, contracts, lowP}
+use Rattle.rules.proofs.Loads.{splits-true}
 use Rattle.rules.proofs.Tests.{all-of}
 use Rattle.rules.proofs.States.{State, state-of, size-low}
-use Rattle.model.specs.Model.{Store, held, size, grown, shrunk}
-use Rattle.model.specs.Layout.{format, cardsAt, faultsAt, lengthFor, limitsOk, header, front, fair, encode, decode}
+use Rattle.model.specs.Shape.{Shape}
+use Rattle.model.specs.Model.{Store, grown, shrunk}
+use Rattle.model.specs.Layout.{directoryAt, segmentsAt, cardsAt, faultsAt, lengthFor, boundsWord, ruleWord, header, front, fair, encode, decode}
 use Rattle.model.specs.Meaning.{nextCard, bucketWord}
 use Rattle.model.specs.Words.{splitWords, joinWords, growWords, shrinkWords}
 use Rattle.model.proofs.Fair.{fair-is, is-fair}
-use Rattle.model.proofs.Rep.{Rep, rep-front, rep-encode, rep-words}
-use Rattle.model.proofs.Decode.{rep-decode, limit-at, fault-limit-at}
-use Rattle.model.proofs.Readings.{held-at}
-use Rattle.model.proofs.Growth.{split-room}
+use Rattle.model.proofs.Rep.{Rep, rep-head, rep-encode, rep-words}
+use Rattle.model.proofs.Decode.{rep-decode, shape-at}
 use Rattle.model.proofs.Split.{rep-grown}
 use Rattle.model.proofs.Join.{rep-shrunk}
-use Rattle.store.specs.Cells.{Read}
-use Rattle.store.specs.Checker.{limitsFit}
+use Rattle.store.specs.declared.cells.Header.{Header}
+use Rattle.store.specs.Cells.{shapeIn, Read}
+use Rattle.store.specs.Checker.{limitsFit, offsetsFit, endsFit}
 use Rattle.store.specs.Search.{Ends}
 use Rattle.store.specs.Table.{MaySplit, MayJoin, lastOf, Fairly}
 use Rattle.store.proofs.StoredLaws.{bucket-ends, read-store}
+use Rattle.store.proofs.FrontMeans.{head-fits}
 use Rattle.store.proofs.TableLaws.{low-below}
 
 pub fairly-rep : {w : List ℕ} → Fairly w → Rep w (decode w)
@@ -39,67 +41,85 @@ rep-fairly {w} {s} r =
     record { store = ap fair e ∙ is-fair s (r .fair); words = ap encode e ∙ sym (rep-words w s r) }
 
 -- what `front::header` asks
-pub fairly-fits : {w : List ℕ} → Fairly w → limitsFit w ≡ true
-unfolding limitsFit lengthFor faultsAt front header cardsAt
-fairly-fits {w} a =
-    let r = fairly-rep a in
-    let s = decode w in
-    let c = limit-at w s r in
-    let f = fault-limit-at w s r in
-    let l : limitsOk (getD w 1 0) (getD w 2 0) ≡ true = rw (c, f) (r .fair .limits) in
-    all-of (le-leb cardsAt (length w) (omega (arith, r .long)))
-    (all-of (eq-eqb (getD w 0 0) format (rep-front r 0 (lit< tt)))
-    (all-of l (eq-eqb (length w) (lengthFor (getD w 1 0) (getD w 2 0)) (omega (arith, r .long)))))
 
-module _ {w : List ℕ} {c f m p : ℕ} (a : Fairly w) (h : Read w c f m p) where
+limits-from : (w : List ℕ) (s : Store) → Rep w s → limitsFit w ≡ true
+unfolding limitsFit
+limits-from w s r =
+    rw (shape-at w s r)
+    (all-of (le-leb directoryAt (length w) (omega (arith, r .long, head-fits (s .shape)))) (all-of (r .fair .shape) (eq-eqb (length w) (lengthFor (s .shape)) (r .long))))
+
+offsets-from : (w : List ℕ) (s : Store) → Rep w s → offsetsFit w ≡ true
+unfolding offsetsFit endsFit front header
+offsets-from w s r =
+    let sh = s .shape in
+    rw (shape-at w s r)
+    (all-of (eq-eqb (getD w 9 0) directoryAt (rep-head r 9 (lit< tt)))
+    (all-of (eq-eqb (getD w 10 0) (segmentsAt sh) (rep-head r 10 (lit< tt)))
+    (all-of (eq-eqb (getD w 11 0) (cardsAt sh) (rep-head r 11 (lit< tt)))
+    (all-of (eq-eqb (getD w 12 0) (faultsAt sh) (rep-head r 12 (lit< tt)))
+    (all-of (eq-eqb (getD w 13 0) (lengthFor sh) (rep-head r 13 (lit< tt)))
+    (all-of (eq-eqb (getD w 14 0) (boundsWord sh) (rep-head r 14 (lit< tt))) (eq-eqb (getD w 15 0) (ruleWord sh) (rep-head r 15 (lit< tt)))))))))
+
+pub fairly-fits : {w : List ℕ} → Fairly w → (limitsFit w ≡ true) × (offsetsFit w ≡ true)
+fairly-fits {w} a = (limits-from w (decode w) (fairly-rep a), offsets-from w (decode w) (fairly-rep a))
+
+module _ {w : List ℕ} {h : Header} (a : Fairly w) (q : Read w h) where
   r : Rep w (decode w)
   r = fairly-rep a
 
-  state : State m p
-  state = let e = read-store h in state-of m p (subst₂ (λ (m p : ℕ). stateOk m p ≡ true) (e .2) (e .3) (r .fair .state))
+  -- the shape in the header is the store's
+  e : decode w .shape ≡ shapeIn h
+  e = read-store q .0
 
-  pub fairly-room : m + p ≤ top
+  state : State (h .top) (h .maxp) (h .p)
+  state =
+      let z = read-store q in
+      state-of (h .top) (h .maxp) (h .p) (rw (q .sized .top, ← e, ← (z .1), ← (z .2)) (r .fair .state))
+
+  pub fairly-room : h .maxp + h .p ≤ h .top
   fairly-room = state .room
 
   -- the chain of a bucket ends
-  chain : (b : ℕ) → b < m + p → Ends c (nextCard w) (bucketWord w b)
+  chain : (b : ℕ) → b < h .maxp + h .p → Ends (h .cards) (nextCard (shapeIn h) w) (bucketWord (shapeIn h) w b)
   chain b l =
-      let e = read-store h in
-      subst (λ (n : ℕ). Ends n (nextCard w) (bucketWord w b)) (e .0) (bucket-ends r b (omega (arith, r .fair .number, e .2, e .3)))
+      let z = read-store q in
+      subst (λ (sh : Shape). Ends (sh .limit) (nextCard sh w) (bucketWord sh w b)) e (bucket-ends r b (omega (arith, r .fair .number, z .1, z .2)))
 
-  pub may-join : MayJoin w c f m p
+  pub may-join : MayJoin w h
   may-join =
-      let two : 2 ≤ m = omega (arith, size-low (state .size)) in
-      record { read = h; some = two; room = state .room; chain = chain (lowP m p) (omega (arith, low-below m p two)) }
+      let two : 2 ≤ h .maxp = omega (arith, size-low (state .size)) in
+      record { read = q; some = two; room = state .room; chain = chain (lowP (h .maxp) (h .p)) (omega (arith, low-below (h .maxp) (h .p) two)) }
 
   -- the load is that of the store
   module _ {n : ℕ} (is : n ≡ getD w 5 0) where
-    pub may-split : splits n (m + p) ≡ true → MaySplit w c f m p
-    may-split t =
-        let e = read-store h in
-        let s = decode w in
-        let u : splits (held s) (size s) ≡ true = (λ i. splits ((sym (held-at w s r) ∙ sym is) i) (e .2 i + e .3 i)) ∙ t in
-        record {
-          read = h;
-          some = omega (arith, size-low (state .size));
-          room = omega (arith, split-room s (r .fair) u, e .2, e .3);
-          chain = chain p (omega (arith, size-low (state .size)));
-        }
+    pub may-split : splits (h .top) (h .upper) n (h .maxp + h .p) ≡ true → MaySplit w h
+    may-split t = record {
+      read = q;
+      some = omega (arith, size-low (state .size));
+      room = splits-true (h .top) (h .upper) n (h .maxp + h .p) t .1;
+      chain = chain (h .p) (omega (arith, size-low (state .size)));
+    }
 
-    pub grow-yes : splits n (m + p) ≡ true → {v : List ℕ} → v ≡ splitWords w → v ≡ encode (grown (decode w))
+    pub grow-yes : splits (h .top) (h .upper) n (h .maxp + h .p) ≡ true → {v : List ℕ} → v ≡ splitWords (shapeIn h) w → v ≡ encode (grown (decode w))
     unfolding growWords
-    grow-yes t e = let z : growWords w ≡ splitWords w = rw (← is, h .maxp, h .state, t) in e ∙ sym z ∙ rep-words (growWords w) (grown (decode w)) (rep-grown w (decode w) r)
+    grow-yes t g =
+        let z : growWords (shapeIn h) w ≡ splitWords (shapeIn h) w = rw (← is, q .maxp, q .state, ← (q .sized .top), t) in
+        g ∙ sym z ∙ ap (λ (sh : Shape). growWords sh w) (sym e) ∙ rep-words (growWords (decode w .shape) w) (grown (decode w)) (rep-grown w (decode w) r)
 
-    pub grow-no : splits n (m + p) ≡ false → w ≡ encode (grown (decode w))
+    pub grow-no : splits (h .top) (h .upper) n (h .maxp + h .p) ≡ false → w ≡ encode (grown (decode w))
     unfolding growWords
-    grow-no t = let z : growWords w ≡ w = rw (← is, h .maxp, h .state, t) in sym z ∙ rep-words (growWords w) (grown (decode w)) (rep-grown w (decode w) r)
+    grow-no t =
+        let z : growWords (shapeIn h) w ≡ w = rw (← is, q .maxp, q .state, ← (q .sized .top), t) in
+        sym z ∙ ap (λ (sh : Shape). growWords sh w) (sym e) ∙ rep-words (growWords (decode w .shape) w) (grown (decode w)) (rep-grown w (decode w) r)
 
-    pub shrink-yes : contracts n (m + p) ≡ true → {v : List ℕ} → v ≡ joinWords w (lastOf w (lowP m p)) → v ≡ encode (shrunk (decode w))
+    pub shrink-yes : contracts (h .lower) n (h .maxp + h .p) ≡ true → {v : List ℕ} → v ≡ joinWords (shapeIn h) w (lastOf (shapeIn h) w (lowP (h .maxp) (h .p))) → v ≡ encode (shrunk (decode w))
     unfolding shrinkWords lastOf
-    shrink-yes t e =
-        let z : shrinkWords w ≡ joinWords w (lastOf w (lowP m p)) = rw (← is, h .maxp, h .state, t) in
-        e ∙ sym z ∙ rep-words (shrinkWords w) (shrunk (decode w)) (rep-shrunk w (decode w) r)
+    shrink-yes t g =
+        let z : shrinkWords (shapeIn h) w ≡ joinWords (shapeIn h) w (lastOf (shapeIn h) w (lowP (h .maxp) (h .p))) = rw (← is, q .maxp, q .state, t) in
+        g ∙ sym z ∙ ap (λ (sh : Shape). shrinkWords sh w) (sym e) ∙ rep-words (shrinkWords (decode w .shape) w) (shrunk (decode w)) (rep-shrunk w (decode w) r)
 
-    pub shrink-no : contracts n (m + p) ≡ false → w ≡ encode (shrunk (decode w))
+    pub shrink-no : contracts (h .lower) n (h .maxp + h .p) ≡ false → w ≡ encode (shrunk (decode w))
     unfolding shrinkWords
-    shrink-no t = let z : shrinkWords w ≡ w = rw (← is, h .maxp, h .state, t) in sym z ∙ rep-words (shrinkWords w) (shrunk (decode w)) (rep-shrunk w (decode w) r)
+    shrink-no t =
+        let z : shrinkWords (shapeIn h) w ≡ w = rw (← is, q .maxp, q .state, t) in
+        sym z ∙ ap (λ (sh : Shape). shrinkWords sh w) (sym e) ∙ rep-words (shrinkWords (decode w .shape) w) (shrunk (decode w)) (rep-shrunk w (decode w) r)

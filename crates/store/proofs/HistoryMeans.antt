@@ -7,9 +7,10 @@ use mathlib.Core.List.{List, [], _++_}
 use Prim.Native.Nat.{ℕ, zero, suc, _+_}
 use native.Mathlib.Omega.{arith}
 use lib.ListN.{getD}
+use Rattle.model.specs.Shape.{Shape}
 use Rattle.model.specs.Lists.{from, total}
 use Rattle.model.specs.Layout.{cardWord}
-use Rattle.model.specs.Meaning.{In, ExactlyOnce, limitIn, nextFault, freeCells, heldCells, historyCells, filedCells}
+use Rattle.model.specs.Meaning.{In, ExactlyOnce, nextFault, freeCells, heldCells, historyCells, filedCells}
 use Rattle.model.proofs.Sums.{total-flat}
 use Rattle.model.proofs.Meaning.{filed-by-cell}
 use Rattle.store.specs.Cells.{cellWord, limitOf}
@@ -17,19 +18,19 @@ use Rattle.store.specs.Checker.{firstOf, chainCount}
 use Rattle.model.proofs.Chains.{follow-none}
 use Rattle.store.proofs.PartMeans.{chainIn, chainsIn}
 
-pub no-history : (w : List ℕ) (i : ℕ) → cardWord w i 6 ≡ 0 → historyCells w i ≡ []
+pub no-history : (sh : Shape) (w : List ℕ) (i : ℕ) → cardWord sh w i 6 ≡ 0 → historyCells sh w i ≡ []
 unfolding historyCells
-no-history w i z = follow-none (getD w 2 0) (nextFault w) (cardWord w i 6) z
+no-history sh w i z = follow-none (sh .faultLimit) (nextFault sh w) (cardWord sh w i 6) z
 
 total-shift : (f : ℕ → ℕ) (a n : ℕ) → total (λ j. f (j + 1)) (from a n) ≡ total f (from (suc a) n)
 total-shift f a zero = refl
 total-shift f a (suc n) = let e : a + 1 ≡ suc a = omega arith in omega (arith, ap f e, total-shift f (suc a) n)
 
-pub filed-total : (w : List ℕ) → ExactlyOnce (limitIn w) (freeCells w ++ heldCells w) → ((i : ℕ) → In i (freeCells w) → cardWord w i 6 ≡ 0)
-    → (g : ℕ → ℕ) → total g (chainsIn w true) ≡ total g (filedCells w)
+pub filed-total : (sh : Shape) (w : List ℕ) → ExactlyOnce (sh .limit) (freeCells sh w ++ heldCells sh w) → ((i : ℕ) → In i (freeCells sh w) → cardWord sh w i 6 ≡ 0)
+    → (g : ℕ → ℕ) → total g (chainsIn sh w true) ≡ total g (filedCells sh w)
 unfolding firstOf chainCount limitOf cellWord historyCells filedCells
-filed-total w cells empty g =
-    total-flat g (chainIn w true) (from 0 (limitIn w))
-    ∙ total-shift (λ i. total g (historyCells w i)) 0 (limitIn w)
-    ∙ sym (total-flat g (historyCells w) (from 1 (limitIn w)))
-    ∙ filed-by-cell w cells empty g
+filed-total sh w cells empty g =
+    total-flat g (chainIn sh w true) (from 0 (sh .limit))
+    ∙ total-shift (λ i. total g (historyCells sh w i)) 0 (sh .limit)
+    ∙ sym (total-flat g (historyCells sh w) (from 1 (sh .limit)))
+    ∙ filed-by-cell sh w cells empty g

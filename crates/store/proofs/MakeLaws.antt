@@ -1,7 +1,7 @@
 -- What a plan that goes ahead makes of sound words: the places of the plan are those that the writers ask for (`may-place`, `may-file`,
 -- `may-remove`), and the words that they leave are those of the step's store (`made-enter`, `made-file`, `made-withdraw`). A room for pairs
 -- holds those of the card (`show-holds`, `withdraw-holds`), and with them it is that of the step (`show-room`, `withdraw-room`).
-use mathlib.Core.Path.{_≡_, refl, sym, ap, _∙_}
+use mathlib.Core.Path.{_≡_, refl, sym, ap, subst, _∙_}
 use mathlib.Core.Logic.{⊎-elim}
 use mathlib.Core.Bool.{Bool, true, false}
 use mathlib.Core.List.{List, [], _∷_, map}
@@ -10,8 +10,8 @@ use native.Mathlib.Omega.{arith}
 use lib.Dec.{lit<}
 use lib.ListN.{length, take}
 use borrow.Author.Tests.{lt-ltb, le-ltb, ne-eqb}
-use Rattle.rules.specs.Table.{top}
 use Rattle.rules.proofs.Tests.{eq?}
+use Rattle.model.specs.Shape.{Shape, topOf}
 use Rattle.model.specs.Serial.{validSerial, validFault}
 use Rattle.model.specs.Model.{Fault, Card, Store, cards, held, faultsHeld, chainFor, comparisons, splitScan, contractScan, faultCellsOf, placed, grown, entered, filed, historyIn, removed, shrunk, withdrawn}
 use Rattle.model.specs.Layout.{last, follow, cardWidth, faultWidth, cardsAt, faultsAt, cardCell, cardWord, readFault, decode, encode, sound}
@@ -28,11 +28,13 @@ use Rattle.model.proofs.Look.{look, address-in}
 use Rattle.model.proofs.Steps.{removed-total}
 use Rattle.model.proofs.Cases.{valid-serial}
 use Rattle.model.proofs.Numbers.{enter-numbers, file-numbers, show-numbers, withdraw-numbers}
+use Rattle.model.proofs.Shapes.{in-card}
 use Rattle.model.proofs.Whole.{taken-in, historyOf}
 use Rattle.model.proofs.Place.{rep-placed}
 use Rattle.model.proofs.File.{rep-filed}
 use Rattle.model.proofs.Remove.{rep-removed}
-use Rattle.store.specs.Cells.{Read}
+use Rattle.store.specs.declared.cells.Header.{Header}
+use Rattle.store.specs.Cells.{shapeIn, Read}
 use Rattle.store.specs.Search.{faultsFrom}
 use Rattle.store.specs.Plans.{Places, Plans, Holds, Paired}
 use Rattle.store.specs.Writes.{MayPlace, MayFile, MayRemove}
@@ -45,24 +47,24 @@ use Rattle.store.proofs.ShowLaws.{faults-long}
 
 -- cells of histories
 
-cells-back : (w : List ℕ) (l : List ℕ) → faultCellsOf (map (readFault w) l) ≡ l
+cells-back : (sh : Shape) (w : List ℕ) (l : List ℕ) → faultCellsOf (map (readFault sh w) l) ≡ l
 unfolding readFault
-cells-back w [] = refl
-cells-back w (i ∷ l) = ap (λ (l : List ℕ). i ∷ l) (cells-back w l)
+cells-back sh w [] = refl
+cells-back sh w (i ∷ l) = ap (λ (l : List ℕ). i ∷ l) (cells-back sh w l)
 
 -- a card's history is the chain that its first-fault word leads through, and its last fault stands in a cell of it
 module _ {w : List ℕ} {s : Store} {c : Card} {after : List Card} (k : Stored w s c after) where
-  history-last : cardWord w (c .at) 7 ≡ last (follow (s .faultLimit) (nextFault w) (cardWord w (c .at) 6))
+  history-last : cardWord (s .shape) w (c .at) 7 ≡ last (follow (s .shape .faultLimit) (nextFault (s .shape) w) (cardWord (s .shape) w (c .at) 6))
   unfolding faultsFrom
   history-last =
-      let l = follow (s .faultLimit) (nextFault w) (cardWord w (c .at) 6) in
-      k .last-word ∙ ap (λ (h : List Fault). last (faultCellsOf h)) (sym (k .history)) ∙ ap last (cells-back w l)
+      let l = follow (s .shape .faultLimit) (nextFault (s .shape) w) (cardWord (s .shape) w (c .at) 6) in
+      k .last-word ∙ ap (λ (h : List Fault). last (faultCellsOf h)) (sym (k .history)) ∙ ap last (cells-back (s .shape) w l)
 
-  last-fault : cardWord w (c .at) 7 ≤ s .faultLimit
-  last-fault = let l = follow (s .faultLimit) (nextFault w) (cardWord w (c .at) 6) in omega (arith, history-last, last-inside (s .faultLimit) l (k .history-ends .inside))
+  last-fault : cardWord (s .shape) w (c .at) 7 ≤ s .shape .faultLimit
+  last-fault = let l = follow (s .shape .faultLimit) (nextFault (s .shape) w) (cardWord (s .shape) w (c .at) 6) in omega (arith, history-last, last-inside (s .shape .faultLimit) l (k .history-ends .inside))
 
 -- the cell before a card or behind a chain is a card's, or 0
-prev-inside : {w : List ℕ} {s : Store} {l after : List Card} (prev : ℕ) → ((prev ≡ 0 → ⊥) → Behind w s l after prev) → prev ≤ s .limit
+prev-inside : {w : List ℕ} {s : Store} {l after : List Card} (prev : ℕ) → ((prev ≡ 0 → ⊥) → Behind w s l after prev) → prev ≤ s .shape .limit
 prev-inside prev f = ⊎-elim (λ (z : prev ≡ 0). omega arith) (λ (d : prev ≡ 0 → ⊥). let k = f d in omega (arith, k .cell-is, k .stored .in-limit)) (eq? prev 0)
 
 -- plans that go ahead
@@ -82,90 +84,92 @@ module _ (w : List ℕ) (e : sound w ≡ true) (bytes : List ℕ) (n : ℕ) {r :
       (record { bucket-is = q .bucket-is; held-is = sym (lt-ltb 0 (length (look (decode w) (take n bytes))) (omega arith)); place-is = refl; cell-is = q .cell-is; prev-is = q .prev-is }) refl
 
   -- the cell of a card that a plan found leads to its history
-  pub planned-cell : Places (decode w) bytes n r → length (look (decode w) (take n bytes)) ≡ 1 → {c f m q : ℕ} → Read w c f m q → HeldCell w (take n bytes) c f (r .cell)
+  pub planned-cell : Places (decode w) bytes n r → length (look (decode w) (take n bytes)) ≡ 1 → {h : Header} → Read w h → HeldCell w (take n bytes) h (r .cell)
   planned-cell q l h = held-cell h (spot-held q l)
 
   -- a serial's bucket is one of the table
-  bucket-top : Places (decode w) bytes n r → r .bucket < top
-  bucket-top q =
+  bucket-top : Places (decode w) bytes n r → {h : Header} → Read w h → r .bucket < h .top
+  bucket-top q k =
       let t = sound-is w e .0 .fair in
-      omega (arith, q .bucket-is, address-in (decode w) t (take n bytes), t .number, size-top (decode w) t)
+      omega (arith, q .bucket-is, address-in (decode w) t (take n bytes), t .number, size-top (decode w) t, ap topOf (read-store k .0), k .sized .top)
 
   -- Enter
   module _ (p : Plans (enterStep (decode w) bytes n .answer) (decode w) bytes n r) (z : r .number ≡ 0) where
-    enter-facts : (validSerial bytes n ≡ true) × (look (decode w) (take n bytes) ≡ []) × (held (decode w) < decode w .limit)
+    enter-facts : (validSerial bytes n ≡ true) × (look (decode w) (take n bytes) ≡ []) × (held (decode w) < decode w .shape .limit)
     enter-facts = enter-numbers (decode w) (sound-good w e .0) bytes n .done .0 (sym (p .answer .number-is) ∙ z)
 
     enter-step : enterStep (decode w) bytes n
         ≡ stays (gives 0 (comparisons (take n bytes) (chainFor (decode w) (take n bytes))) (splitScan (placed (decode w) (take n bytes))) 0) (entered (decode w) (take n bytes)) []
     unfolding enterStep
-    enter-step = let (v, l, b) = enter-facts in rw (v, l, ne-eqb (held (decode w)) (decode w .limit) (omega arith))
+    enter-step = let (v, l, b) = enter-facts in rw (v, l, ne-eqb (held (decode w)) (decode w .shape .limit) (omega arith))
 
     enter-none : NotHeld w (decode w) (take n bytes) (spotOf (decode w) (take n bytes) r false)
     enter-none = spot-none (p .places z) (enter-facts .1)
 
-    pub may-place : {c f m q : ℕ} → Read w c f m q → MayPlace w c f (r .bucket) (r .prev)
-    may-place {c} {f} h =
+    pub may-place : {h : Header} → Read w h → MayPlace w h (r .bucket) (r .prev)
+    may-place {h} k =
         let s = decode w in
         let t = sound-is w e .0 in
-        let l = read-store h in
+        let l = read-store k .0 in
+        let c = ap (λ (sh : Shape). sh .limit) l in
         let some : 0 < length (s .free) = omega (arith, card-count s, t .fair .cells .count, enter-facts .2) in
-        let new = taken-in w cardsAt cardWidth (s .limit) (s .free) (map (map cardCell) (s .buckets)) (lit< tt) some (t .fair .cells) (t .cards) in
+        let new = taken-in w (cardsAt (s .shape)) (cardWidth (s .shape)) (s .shape .limit) (s .free) (map (map cardCell) (s .buckets)) (in-card (s .shape) (lit< tt)) some (t .fair .cells) (t .cards) in
         record {
-          sized = h .sized;
-          bucket = bucket-top (p .places z);
-          behind = omega (arith, prev-inside (r .prev) (enter-none .behind), l .0);
+          sized = k .sized;
+          bucket = bucket-top (p .places z) k;
+          behind = omega (arith, prev-inside (r .prev) (enter-none .behind), c);
           free = rw (free-at w s t) (new .0);
-          within = rw (free-at w s t, ← (l .0)) (new .1);
-          held = omega (arith, held-at w s t, enter-facts .2, l .0);
+          within = rw (free-at w s t, ← c) (new .1);
+          held = omega (arith, held-at w s t, enter-facts .2, c);
         }
 
     -- the words with the new card stand for the store with it, and once grown they are those of the step
-    pub rep-place : {v : List ℕ} → v ≡ placeWords w (r .bucket) (r .prev) (take n bytes) → Rep v (placed (decode w) (take n bytes))
-    rep-place i =
+    pub rep-place : {h : Header} → Read w h → {v : List ℕ} → v ≡ placeWords (shapeIn h) w (r .bucket) (r .prev) (take n bytes) → Rep v (placed (decode w) (take n bytes))
+    rep-place q i =
         let (v, l, b) = enter-facts in
-        rw (i, p .places z .bucket-is, enter-none .prev-is) (rep-placed w (decode w) (sound-is w e .0) (take n bytes) (valid-serial bytes n v) l b)
+        rw (i, ← (read-store q .0), p .places z .bucket-is, enter-none .prev-is) (rep-placed w (decode w) (sound-is w e .0) (take n bytes) (valid-serial bytes n v) l b)
 
-    pub made-enter : {v u : List ℕ} → v ≡ placeWords w (r .bucket) (r .prev) (take n bytes) → u ≡ encode (grown (decode v)) → u ≡ encode (enterStep (decode w) bytes n .store)
+    pub made-enter : {h : Header} → Read w h → {v u : List ℕ} → v ≡ placeWords (shapeIn h) w (r .bucket) (r .prev) (take n bytes) → u ≡ encode (grown (decode v)) → u ≡ encode (enterStep (decode w) bytes n .store)
     unfolding entered
-    made-enter i j = j ∙ ap (λ (s : Store). encode (grown s)) (rep-decode _ _ (rep-place i)) ∙ ap (λ (t : Step). encode (t .store)) (sym enter-step)
+    made-enter q i j = j ∙ ap (λ (s : Store). encode (grown s)) (rep-decode _ _ (rep-place q i)) ∙ ap (λ (t : Step). encode (t .store)) (sym enter-step)
 
   -- File
   module _ (day code : ℕ) (p : Plans (fileStep (decode w) bytes n day code .answer) (decode w) bytes n r) (z : r .number ≡ 0) where
-    file-facts : (validSerial bytes n ≡ true) × (validFault day code ≡ true) × (length (look (decode w) (take n bytes)) ≡ 1) × (faultsHeld (decode w) < decode w .faultLimit)
+    file-facts : (validSerial bytes n ≡ true) × (validFault day code ≡ true) × (length (look (decode w) (take n bytes)) ≡ 1) × (faultsHeld (decode w) < decode w .shape .faultLimit)
     file-facts = file-numbers (decode w) (sound-good w e .0) bytes n day code .done .0 (sym (p .answer .number-is) ∙ z)
 
     file-step : fileStep (decode w) bytes n day code
         ≡ stays (gives 0 (comparisons (take n bytes) (chainFor (decode w) (take n bytes))) 0 (length (historyIn (decode w) (take n bytes)) + 1)) (filed (decode w) (take n bytes) day code) []
     unfolding fileStep
-    file-step = let (v, u, l, b) = file-facts in rw (v, u, l, ne-eqb (faultsHeld (decode w)) (decode w .faultLimit) (omega arith))
+    file-step = let (v, u, l, b) = file-facts in rw (v, u, l, ne-eqb (faultsHeld (decode w)) (decode w .shape .faultLimit) (omega arith))
 
     file-held : IsHeld w (decode w) (take n bytes) (spotOf (decode w) (take n bytes) r true)
     file-held = spot-held (p .places z) (file-facts .2)
 
-    pub may-file : {c f m q : ℕ} → Read w c f m q → MayFile w c f (r .cell)
-    may-file {c} {f} h =
-        let k = held-cell h file-held in
+    pub may-file : {h : Header} → Read w h → MayFile w h (r .cell)
+    may-file {h} q =
+        let k = held-cell q file-held in
         let s = decode w in
         let t = sound-is w e .0 in
-        let l = read-store h in
+        let l = read-store q .0 in
+        let f = ap (λ (sh : Shape). sh .faultLimit) l in
         let some : 0 < length (s .freeFaults) = omega (arith, fault-count s, t .fair .faultCells .count, file-facts .3) in
-        let new = taken-in w (faultsAt (s .limit)) faultWidth (s .faultLimit) (s .freeFaults) (map historyOf (cards s)) (lit< tt) some (t .fair .faultCells) (t .faults) in
+        let new = taken-in w (faultsAt (s .shape)) faultWidth (s .shape .faultLimit) (s .freeFaults) (map historyOf (cards s)) (lit< tt) some (t .fair .faultCells) (t .faults) in
         record {
-          sized = h .sized;
+          sized = q .sized;
           card = k .from-one;
           inside = k .in-limit;
           free = rw (free-faults-at w s t) (new .0);
-          within = rw (free-faults-at w s t, ← (l .1)) (new .1);
-          last = rw (file-held .cell-is, ← (l .1)) (last-fault (file-held .stored));
-          count = omega (arith, k .count-word, ap length (k .history), faults-long f w (cardWord w (r .cell) 6), follow-length f (nextFault w) (cardWord w (r .cell) 6));
-          held = omega (arith, faults-held-at w s t, file-facts .3, l .1);
+          within = rw (free-faults-at w s t, ← f) (new .1);
+          last = rw (file-held .cell-is) (subst (λ (sh : Shape). cardWord sh w (file-held .present .card .at) 7 ≤ sh .faultLimit) l (last-fault (file-held .stored)));
+          count = omega (arith, k .count-word, ap length (k .history), faults-long (shapeIn h) w (cardWord (shapeIn h) w (r .cell) 6), follow-length (h .faults) (nextFault (shapeIn h) w) (cardWord (shapeIn h) w (r .cell) 6));
+          held = omega (arith, faults-held-at w s t, file-facts .3, f);
         }
 
-    pub made-file : {v : List ℕ} → v ≡ fileWords w (r .cell) day code → v ≡ encode (fileStep (decode w) bytes n day code .store)
-    made-file i =
+    pub made-file : {h : Header} → Read w h → {v : List ℕ} → v ≡ fileWords (shapeIn h) w (r .cell) day code → v ≡ encode (fileStep (decode w) bytes n day code .store)
+    made-file q i =
         let (v, u, l, b) = file-facts in
-        rw (i, file-step, file-held .cell-is)
+        rw (i, ← (read-store q .0), file-step, file-held .cell-is)
         (rep-words _ (filed (decode w) (take n bytes) day code) (rep-filed w (decode w) (sound-is w e .0) (take n bytes) day code u (file-held .present) b))
 
   -- Show
@@ -204,30 +208,32 @@ module _ (w : List ℕ) (e : sound w ≡ true) (bytes : List ℕ) (n : ℕ) {r :
     pub withdraw-room : {left : List ℕ} → Paired (decode w) r room left → left ≡ withdrawStep (decode w) bytes n room .room
     withdraw-room k = k .pairs-are bytes n (p .places z) (withdraw-facts .1) ∙ ap (λ (t : Step). t .room) (sym withdraw-step)
 
-    pub may-remove : {c f m q : ℕ} → Read w c f m q → MayRemove w c f (r .bucket) (r .prev) (r .cell)
-    may-remove {c} {f} h =
-        let k = held-cell h withdraw-held in
+    pub may-remove : {h : Header} → Read w h → MayRemove w h (r .bucket) (r .prev) (r .cell)
+    may-remove {h} q =
+        let k = held-cell q withdraw-held in
         let s = decode w in
         let t = sound-is w e .0 in
         let y = take n bytes in
-        let l = read-store h in
+        let l = read-store q .0 in
         record {
-          sized = h .sized;
-          bucket = bucket-top (p .places z);
-          behind = omega (arith, prev-inside (r .prev) (withdraw-held .behind), l .0);
+          sized = q .sized;
+          bucket = bucket-top (p .places z) q;
+          behind = omega (arith, prev-inside (r .prev) (withdraw-held .behind), ap (λ (sh : Shape). sh .limit) l);
           card = k .from-one;
           inside = k .in-limit;
           held = omega (arith, held-at w s t, length-total (cards s), length-total (look s y), removed-total s (t .fair) y one, withdraw-facts .1);
           filed = omega (arith, faults-held-at w s t, k .count-word, faults-total (cards s), faults-total (look s y), removed-total s (t .fair) y filings);
           ends = k .history-ends;
-          last-is = rw (withdraw-held .cell-is, ← (l .1)) (history-last (withdraw-held .stored));
+          last-is =
+              rw (withdraw-held .cell-is)
+              (subst (λ (sh : Shape). cardWord sh w (withdraw-held .present .card .at) 7 ≡ last (follow (sh .faultLimit) (nextFault sh w) (cardWord sh w (withdraw-held .present .card .at) 6))) l (history-last (withdraw-held .stored)));
         }
 
     -- the words without the card stand for the store without it, and once shrunk they are those of the step
-    pub rep-remove : {v : List ℕ} → v ≡ removeWords w (r .bucket) (r .prev) (r .cell) → Rep v (removed (decode w) (take n bytes))
-    rep-remove i =
-        rw (i, p .places z .bucket-is, withdraw-held .prev-is, withdraw-held .cell-is) (rep-removed w (decode w) (sound-is w e .0) (take n bytes) (withdraw-held .present))
+    pub rep-remove : {h : Header} → Read w h → {v : List ℕ} → v ≡ removeWords (shapeIn h) w (r .bucket) (r .prev) (r .cell) → Rep v (removed (decode w) (take n bytes))
+    rep-remove q i =
+        rw (i, ← (read-store q .0), p .places z .bucket-is, withdraw-held .prev-is, withdraw-held .cell-is) (rep-removed w (decode w) (sound-is w e .0) (take n bytes) (withdraw-held .present))
 
-    pub made-withdraw : {v u : List ℕ} → v ≡ removeWords w (r .bucket) (r .prev) (r .cell) → u ≡ encode (shrunk (decode v)) → u ≡ encode (withdrawStep (decode w) bytes n room .store)
+    pub made-withdraw : {h : Header} → Read w h → {v u : List ℕ} → v ≡ removeWords (shapeIn h) w (r .bucket) (r .prev) (r .cell) → u ≡ encode (shrunk (decode v)) → u ≡ encode (withdrawStep (decode w) bytes n room .store)
     unfolding withdrawn
-    made-withdraw i j = j ∙ ap (λ (s : Store). encode (shrunk s)) (rep-decode _ _ (rep-remove i)) ∙ ap (λ (t : Step). encode (t .store)) (sym withdraw-step)
+    made-withdraw q i j = j ∙ ap (λ (s : Store). encode (shrunk s)) (rep-decode _ _ (rep-remove q i)) ∙ ap (λ (t : Step). encode (t .store)) (sym withdraw-step)

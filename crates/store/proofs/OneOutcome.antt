@@ -12,10 +12,12 @@ use Rattle.store.specs.Sequences.{Given, Meets}
 pub one-outcome : (w scratch : List ℕ) (act : Act) (a b : Given) → Meets w (acting scratch act) a → Meets w (acting scratch act) b → a ≡ b
 one-outcome w scratch act a b p q = λ i.
     record {
-      number = (p .answer .number-is ∙ sym (q .answer .number-is)) i;
-      comparisons = (p .answer .comparisons-are ∙ sym (q .answer .comparisons-are)) i;
-      scanned = (p .answer .scanned-is ∙ sym (q .answer .scanned-is)) i;
-      faults = (p .answer .faults-are ∙ sym (q .answer .faults-are)) i;
+      answer = record {
+        number = (p .answer .number-is ∙ sym (q .answer .number-is)) i;
+        comparisons = (p .answer .comparisons-are ∙ sym (q .answer .comparisons-are)) i;
+        scanned = (p .answer .scanned-is ∙ sym (q .answer .scanned-is)) i;
+        faults = (p .answer .faults-are ∙ sym (q .answer .faults-are)) i;
+      };
       words = (p .words-are ∙ sym (q .words-are)) i;
       room = (p .room-is ∙ sym (q .room-is)) i;
       scratch = (p .scratch-is ∙ sym (q .scratch-is)) i;

@@ -1,7 +1,7 @@
 -- Plans of calls on sound words. The header's words and the buckets' chains are what the store has (`size-room`, `held-word`, `bucket-length`
 -- ..), so a scan read off the words is the store's (`grow-none`, `grow-some`, `shrink-none`, `shrink-some`); and each way out of a plan gives
 -- the numbers of its step: `enter-..`, `file-..`, `pairs-..` for Show, and `withdraw-..`, which go by the plan of Show.
-use mathlib.Core.Path.{_≡_, refl, sym, ap, _∙_}
+use mathlib.Core.Path.{_≡_, refl, sym, ap, subst, _∙_}
 use mathlib.Core.Bool.{true, false, cond}
 use mathlib.Core.List.{List}
 use Prim.Native.Nat.{ℕ, suc, _+_, _-_, _*_, _≤_, _<_}
@@ -9,9 +9,10 @@ use native.Mathlib.Omega.{arith}
 use lib.Dec.{eqb, ltb}
 use lib.ListN.{length, take, getD, length-map}
 use borrow.Author.Tests.{eq-eqb, ne-eqb, lt-ltb, le-ltb}
-use Rattle.rules.specs.Table.{top, splits, contracts}
+use Rattle.rules.specs.Table.{splits, contracts}
 use Rattle.rules.proofs.Tests.{by-cases}
 use Rattle.rules.proofs.States.{State, state-of, size-low}
+use Rattle.model.specs.Shape.{Shape, topOf}
 use Rattle.model.specs.Serial.{validSerial, validFault}
 use Rattle.model.specs.Model.{Store, Card, held, faultsHeld, size, bucket, chainFor, found, historyIn, removed, contractScan}
 use Rattle.model.specs.Layout.{segmentsAt, mostCards, mostFaults, follow, cardWord, decode, sound}
@@ -22,7 +23,8 @@ use Rattle.model.proofs.Sound.{sound-is, sound-good}
 use Rattle.model.proofs.Fair.{Good}
 use Rattle.model.proofs.Cases.{cards-fit}
 use Rattle.model.proofs.Numbers.{show-numbers}
-use Rattle.store.specs.Cells.{Read}
+use Rattle.store.specs.declared.cells.Header.{Header}
+use Rattle.store.specs.Cells.{shapeIn, Read}
 use Rattle.store.specs.Search.{Ends, Finds}
 use Rattle.store.specs.Plans.{growScan, shrinkScan, refusal, ahead, Plans, PlansFor}
 use Rattle.store.specs.declared.plans.Plan.{Plan}
@@ -33,13 +35,19 @@ use Rattle.store.proofs.ScanLaws.{grow-scan, shrink-scan}
 use Rattle.store.proofs.FindLaws.{not-held, is-held, HeldCell}
 use Rattle.store.proofs.ShowLaws.{faults-long}
 
-module _ {w : List ℕ} (e : sound w ≡ true) {c f m p : ℕ} (h : Read w c f m p) where
+module _ {w : List ℕ} (e : sound w ≡ true) {h : Header} (q : Read w h) where
   -- the header
 
-  state-is : State m p
-  state-is = state-of m p (rw (read-store h .2, read-store h .3) at (sound-is w e .0 .fair .state))
+  shape-is : decode w .shape ≡ shapeIn h
+  shape-is = read-store q .0
 
-  pub size-room : (16 ≤ m + p) × (m + p ≤ top) × (p < m)
+  top-is : topOf (decode w .shape) ≡ h .top
+  top-is = ap topOf shape-is ∙ sym (q .sized .top)
+
+  state-is : State (h .top) (h .maxp) (h .p)
+  state-is = state-of (h .top) (h .maxp) (h .p) (rw (top-is, read-store q .1, read-store q .2) at (sound-is w e .0 .fair .state))
+
+  pub size-room : (16 ≤ h .maxp + h .p) × (h .maxp + h .p ≤ h .top) × (h .p < h .maxp)
   size-room = (omega (arith, size-low (state-is .size)), state-is .room, state-is .below)
 
   pub held-word : getD w 5 0 ≡ held (decode w)
@@ -49,50 +57,59 @@ module _ {w : List ℕ} (e : sound w ≡ true) {c f m p : ℕ} (h : Read w c f m
   filed-word = faults-held-at w (decode w) (sound-is w e .0)
 
   pub held-room : getD w 5 0 ≤ mostCards
-  held-room = omega (arith, held-word, cards-fit (decode w) (sound-good w e .0), read-store h .0, h .sized .most)
+  held-room = omega (arith, held-word, cards-fit (decode w) (sound-good w e .0), ap (λ (sh : Shape). sh .limit) shape-is, q .sized .room)
 
   -- a bucket
 
-  module _ {b : ℕ} (k : b < m + p) where
+  module _ {b : ℕ} (k : b < h .maxp + h .p) where
     within : b < length (decode w .buckets)
-    within = omega (arith, sound-is w e .0 .fair .number, read-store h .2, read-store h .3)
+    within = omega (arith, sound-is w e .0 .fair .number, read-store q .1, read-store q .2)
 
-    pub bucket-word : segmentsAt + b < length w
-    bucket-word = omega (arith, size-room .1, h .sized .long)
+    pub bucket-word : h .segments + b < length w
+    bucket-word = omega (arith, size-room .1, q .sized .room)
 
-    pub bucket-chain : Ends c (nextCard w) (getD w (segmentsAt + b) 0)
-    bucket-chain = rw (read-store h .0) at (bucket-ends (sound-is w e .0) b within)
+    pub bucket-chain : Ends (h .cards) (nextCard (shapeIn h) w) (getD w (segmentsAt (shapeIn h) + b) 0)
+    bucket-chain = subst (λ (sh : Shape). Ends (sh .limit) (nextCard sh w) (getD w (segmentsAt sh + b) 0)) shape-is (bucket-ends (sound-is w e .0) b within)
 
-    pub bucket-length : length (follow c (nextCard w) (getD w (segmentsAt + b) 0)) ≡ length (bucket (decode w) b)
+    pub bucket-length : length (follow (h .cards) (nextCard (shapeIn h) w) (getD w (segmentsAt (shapeIn h) + b) 0)) ≡ length (bucket (decode w) b)
     bucket-length =
-        ap length (rw (read-store h .0) at (bucket-cells (sound-is w e .0) b within)) ∙ length-map (bucket (decode w) b) (λ (x : Card). x .at)
+        ap (λ (sh : Shape). length (follow (sh .limit) (nextCard sh w) (getD w (segmentsAt sh + b) 0))) (sym shape-is)
+        ∙ ap length (bucket-cells (sound-is w e .0) b within) ∙ length-map (bucket (decode w) b) (λ (x : Card). x .at)
 
     pub bucket-room : length (bucket (decode w) b) ≤ mostCards
-    bucket-room = omega (arith, bucket-length, follow-length c (nextCard w) (getD w (segmentsAt + b) 0), h .sized .most)
+    bucket-room = omega (arith, bucket-length, follow-length (h .cards) (nextCard (shapeIn h) w) (getD w (segmentsAt (shapeIn h) + b) 0), q .sized .room)
 
   -- a card that is held
 
-  pub held-history : {y : List ℕ} {i : ℕ} → HeldCell w y c f i → length (historyIn (decode w) y) ≤ mostFaults
-  held-history {y} {i} k = omega (arith, ap length (k .history), faults-long f w (cardWord w i 6), follow-length f (nextFault w) (cardWord w i 6), h .sized .mostFaults)
+  pub held-history : {y : List ℕ} {i : ℕ} → HeldCell w y h i → length (historyIn (decode w) y) ≤ mostFaults
+  held-history {y} {i} k =
+      omega (arith, ap length (k .history), faults-long (shapeIn h) w (cardWord (shapeIn h) w i 6), follow-length (h .faults) (nextFault (shapeIn h) w) (cardWord (shapeIn h) w i 6), q .sized .room)
 
   -- the scans
 
+  upper-is : decode w .shape .upper ≡ h .upper
+  upper-is = ap (λ (sh : Shape). sh .upper) shape-is
+
+  lower-is : decode w .shape .lower ≡ h .lower
+  lower-is = ap (λ (sh : Shape). sh .lower) shape-is
+
   module _ (b : ℕ) where
-    pub grow-none : splits (getD w 5 0 + 1) (m + p) ≡ false → 0 ≡ growScan (decode w) b
+    pub grow-none : splits (h .top) (h .upper) (getD w 5 0 + 1) (h .maxp + h .p) ≡ false → 0 ≡ growScan (decode w) b
     unfolding growScan
-    grow-none t = rw (← held-word, read-store h .2, read-store h .3, t)
+    grow-none t = rw (← held-word, top-is, upper-is, read-store q .1, read-store q .2, t)
 
-    pub grow-some : splits (getD w 5 0 + 1) (m + p) ≡ true → length (bucket (decode w) p) + cond (eqb b p) 1 0 ≡ growScan (decode w) b
+    pub grow-some : splits (h .top) (h .upper) (getD w 5 0 + 1) (h .maxp + h .p) ≡ true → length (bucket (decode w) (h .p)) + cond (eqb b (h .p)) 1 0 ≡ growScan (decode w) b
     unfolding growScan
-    grow-some t = rw (← held-word, read-store h .2, read-store h .3, t)
+    grow-some t = rw (← held-word, top-is, upper-is, read-store q .1, read-store q .2, t)
 
-    pub shrink-none : contracts (getD w 5 0 - 1) (m + p) ≡ false → 0 ≡ shrinkScan (decode w) b
+    pub shrink-none : contracts (h .lower) (getD w 5 0 - 1) (h .maxp + h .p) ≡ false → 0 ≡ shrinkScan (decode w) b
     unfolding shrinkScan
-    shrink-none t = rw (← held-word, read-store h .2, read-store h .3, t)
+    shrink-none t = rw (← held-word, lower-is, read-store q .1, read-store q .2, t)
 
-    pub shrink-some : contracts (getD w 5 0 - 1) (m + p) ≡ true → length (bucket (decode w) (m + p - 1)) - cond (eqb b (m + p - 1)) 1 0 ≡ shrinkScan (decode w) b
+    pub shrink-some : contracts (h .lower) (getD w 5 0 - 1) (h .maxp + h .p) ≡ true
+        → length (bucket (decode w) (h .maxp + h .p - 1)) - cond (eqb b (h .maxp + h .p - 1)) 1 0 ≡ shrinkScan (decode w) b
     unfolding shrinkScan
-    shrink-some t = rw (← held-word, read-store h .2, read-store h .3, t)
+    shrink-some t = rw (← held-word, lower-is, read-store q .1, read-store q .2, t)
 
 -- the two kinds of plans
 
@@ -141,16 +158,16 @@ module _ (w : List ℕ) (e : sound w ≡ true) (bytes : List ℕ) (n : ℕ) wher
         none : length (found (take n bytes) (chainFor (decode w) (take n bytes))) ≡ 0
         none = ap length (not-held (sound-is w e .0) (take n bytes) f h .absent .none)
 
-        pub enter-full : held (decode w) ≡ decode w .limit → Plans (enterStep (decode w) bytes n .answer) (decode w) bytes n (refusal 8 (o .place) 0)
+        pub enter-full : held (decode w) ≡ decode w .shape .limit → Plans (enterStep (decode w) bytes n .answer) (decode w) bytes n (refusal 8 (o .place) 0)
         unfolding enterStep
-        enter-full k = plan-refused bytes n 7 (o .place) 0 (rw (v, none, f .place-is, eq-eqb (held (decode w)) (decode w .limit) k))
+        enter-full k = plan-refused bytes n 7 (o .place) 0 (rw (v, none, f .place-is, eq-eqb (held (decode w)) (decode w .shape .limit) k))
 
-        pub enter-ahead : (held (decode w) ≡ decode w .limit → ⊥)
+        pub enter-ahead : (held (decode w) ≡ decode w .shape .limit → ⊥)
             → Plans (enterStep (decode w) bytes n .answer) (decode w) bytes n (ahead o (growScan (decode w) (o .bucket)) 0)
         unfolding enterStep
         enter-ahead k =
             plan-ahead bytes n v f (growScan (decode w) (o .bucket)) 0
-            (rw (v, none, f .place-is, f .bucket-is, grow-scan (decode w) (sound-is w e .0 .fair) (take n bytes), ne-eqb (held (decode w)) (decode w .limit) k))
+            (rw (v, none, f .place-is, f .bucket-is, grow-scan (decode w) (sound-is w e .0 .fair) (take n bytes), ne-eqb (held (decode w)) (decode w .shape .limit) k))
 
         pub file-missing : (day code : ℕ) → validFault day code ≡ true → Plans (fileStep (decode w) bytes n day code .answer) (decode w) bytes n (refusal 7 (o .place) 0)
         unfolding fileStep
@@ -170,15 +187,15 @@ module _ (w : List ℕ) (e : sound w ≡ true) (bytes : List ℕ) (n : ℕ) wher
         enter-held = plan-refused bytes n 5 (o .place) 0 (rw (v, one, f .place-is))
 
         module _ (day code : ℕ) (u : validFault day code ≡ true) where
-          pub file-full : faultsHeld (decode w) ≡ decode w .faultLimit → Plans (fileStep (decode w) bytes n day code .answer) (decode w) bytes n (refusal 9 (o .place) 0)
+          pub file-full : faultsHeld (decode w) ≡ decode w .shape .faultLimit → Plans (fileStep (decode w) bytes n day code .answer) (decode w) bytes n (refusal 9 (o .place) 0)
           unfolding fileStep
-          file-full k = plan-refused bytes n 8 (o .place) 0 (rw (v, u, one, f .place-is, eq-eqb (faultsHeld (decode w)) (decode w .faultLimit) k))
+          file-full k = plan-refused bytes n 8 (o .place) 0 (rw (v, u, one, f .place-is, eq-eqb (faultsHeld (decode w)) (decode w .shape .faultLimit) k))
 
-          pub file-ahead : (faultsHeld (decode w) ≡ decode w .faultLimit → ⊥) → (count : ℕ) → count ≡ length (historyIn (decode w) (take n bytes))
+          pub file-ahead : (faultsHeld (decode w) ≡ decode w .shape .faultLimit → ⊥) → (count : ℕ) → count ≡ length (historyIn (decode w) (take n bytes))
               → Plans (fileStep (decode w) bytes n day code .answer) (decode w) bytes n (ahead o 0 (count + 1))
           unfolding fileStep
           file-ahead k count l =
-              plan-ahead bytes n v f 0 (count + 1) (rw (v, u, one, f .place-is, l, ne-eqb (faultsHeld (decode w)) (decode w .faultLimit) k))
+              plan-ahead bytes n v f 0 (count + 1) (rw (v, u, one, f .place-is, l, ne-eqb (faultsHeld (decode w)) (decode w .shape .faultLimit) k))
 
         module _ (room count : ℕ) (l : count ≡ length (historyIn (decode w) (take n bytes))) where
           pub pairs-small : room < 2 * count → PlansFor (showStep (decode w) bytes n) room (decode w) bytes n (refusal 10 (o .place) count)

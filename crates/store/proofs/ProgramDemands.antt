@@ -7,7 +7,7 @@ use mathlib.Core.List.{List, [], _∷_, map}
 use Prim.Native.Nat.{ℕ}
 use lib.Dec.{eqb}
 use Rattle.model.specs.Layout.{decode, sound}
-use Rattle.model.specs.Calls.{openCall}
+use Rattle.model.specs.Calls.{Terms, shapeFor, openCall}
 use Rattle.model.specs.Plain.{Book}
 use Rattle.model.specs.Runs.{Call, Call.opening, Call.acting, wordsAfter, run, Event.opened, eventsOf, events, tellOf, tells, bookAfter, bookTells}
 use Rattle.model.proofs.Demand2.{Agrees, bookOf, emptyBook}
@@ -22,15 +22,15 @@ callsOf = map (λ m. m .call)
 -- one call
 
 pub left-words : (w : List ℕ) (c : Call) (g : Given) → Meets w c g → g .words ≡ wordsAfter w c
-left-words w (opening c f) g e = e .0 .words-are
+left-words w (opening t) g e = e .0 .words-are
 left-words w (acting scratch act) g e = e .words-are
 
 seen-is : (w : List ℕ) (c : Call) (g : Given) → Meets w c g → seen c g ≡ eventsOf w c
-seen-is w (opening c f) g e = ap (λ (n : ℕ). cond (eqb n 0) (opened ∷ []) []) (e .0 .number-is)
+seen-is w (opening t) g e = ap (λ (n : ℕ). cond (eqb n 0) (opened ∷ []) []) (e .0 .number-is)
 seen-is w (acting scratch act) g e = rw (e .answer .number-is, e .answer .faults-are)
 
-told-is : (w : List ℕ) (c : Call) (g : Given) → Meets w c g → record { number = g .number; faults = g .faults; room = g .room } ≡ tellOf w c
-told-is w (opening c f) g e = rw (e .0 .number-is, e .1, e .2)
+told-is : (w : List ℕ) (c : Call) (g : Given) → Meets w c g → record { number = g .answer .number; faults = g .answer .faults; room = g .room } ≡ tellOf w c
+told-is w (opening t) g e = rw (e .0 .number-is, e .1, e .2)
 told-is w (acting scratch act) g e = rw (e .answer .number-is, e .answer .faults-are, e .room-is)
 
 -- a sequence
@@ -53,13 +53,13 @@ same-tells w (m ∷ ms) a =
     rw (told-is w (m .call) (m .gives) (a .0), ← e, same-tells (m .gives .words) ms (a .1))
 
 -- the words of an accepted Open
-pub opened-words : (w₀ w : List ℕ) (c f : ℕ) → Opens (openCall w₀ c f) 0 w → (openCall w₀ c f .number ≡ 0) × (w ≡ openCall w₀ c f .words)
-opened-words w₀ w c f o = (sym (o .number-is), o .words-are)
+pub opened-words : (w₀ w : List ℕ) (t : Terms) → Opens (openCall w₀ t) 0 w → (openCall w₀ t .number ≡ 0) × (w ≡ openCall w₀ t .words)
+opened-words w₀ w t o = (sym (o .number-is), o .words-are)
 
-pub program-demand3 : (w₀ w : List ℕ) (c f : ℕ) → Opens (openCall w₀ c f) 0 w → (ms : List Made) → AllMeet w ms → Demand3 (endWords w ms) (seenOf ms)
-program-demand3 w₀ w c f o ms a =
-    let e = opened-words w₀ w c f o in
-    rw (same-words w ms a, same-events w ms a, e .1) (demand3 w₀ c f (e .0) (callsOf ms))
+pub program-demand3 : (w₀ w : List ℕ) (t : Terms) → Opens (openCall w₀ t) 0 w → (ms : List Made) → AllMeet w ms → Demand3 (endWords w ms) (seenOf ms)
+program-demand3 w₀ w t o ms a =
+    let e = opened-words w₀ w t o in
+    rw (same-words w ms a, same-events w ms a, e .1) (demand3 w₀ t (e .0) (callsOf ms))
 
 -- each answer is that of a plain list, and the store and the list agree on every serial at the end
 pub record AsList (w : List ℕ) (b : Book) (ms : List Made) : Type 0 where
@@ -70,9 +70,9 @@ as-list : (w : List ℕ) (b : Book) (ms : List Made) → AllMeet w ms → Demand
 as-list w b ms a d = record { answers = same-tells w ms a ∙ d .same-tells; agrees = rw (same-words w ms a) (d .agrees) }
 
 -- from an accepted Open on, with an empty list
-pub program-demand2 : (w₀ w : List ℕ) (c f : ℕ) → Opens (openCall w₀ c f) 0 w → (ms : List Made) → AllMeet w ms → AsList w (emptyBook c f) ms
-program-demand2 w₀ w c f o ms a =
-    let e = opened-words w₀ w c f o in as-list w (emptyBook c f) ms a (rw (e .1) (demand2 w₀ c f (e .0) (callsOf ms)))
+pub program-demand2 : (w₀ w : List ℕ) (t : Terms) → Opens (openCall w₀ t) 0 w → (ms : List Made) → AllMeet w ms → AsList w (emptyBook (shapeFor t)) ms
+program-demand2 w₀ w t o ms a =
+    let e = opened-words w₀ w t o in as-list w (emptyBook (shapeFor t)) ms a (rw (e .1) (demand2 w₀ t (e .0) (callsOf ms)))
 
 -- from any sound store on, with the list of its own cards
 pub program-demand2-from : (w : List ℕ) → sound w ≡ true → (ms : List Made) → AllMeet w ms → AsList w (bookOf (decode w)) ms

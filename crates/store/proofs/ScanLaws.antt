@@ -31,13 +31,17 @@ module _ (s : Store) (r : Fair s) (y : List ℕ) where
       (λ (d : b ≡ addressIn s y → ⊥). rw (ne-eqb b (addressIn s y) d, ne-eqb (addressIn s y) b (λ e. d (sym e))) (omega arith))
       (eq? b (addressIn s y)))
 
+  placed-shape : placed s y .shape ≡ s .shape
+  unfolding placed
+  placed-shape = refl
+
   placed-state : (size (placed s y) ≡ size s) × (placed s y .p ≡ s .p)
   unfolding placed
   placed-state = (refl, refl)
 
   pub grow-scan : splitScan (placed s y) ≡ growScan s (addressIn s y)
   unfolding splitScan growScan
-  grow-scan = rw (placed-held, placed-state .0, placed-state .1, placed-bucket (s .p))
+  grow-scan = rw (placed-held, placed-shape, placed-state .0, placed-state .1, placed-bucket (s .p))
 
   module _ (one-held : length (look s y) ≡ 1) where
     removed-held : held (removed s y) ≡ held s - 1
@@ -57,10 +61,14 @@ module _ (s : Store) (r : Fair s) (y : List ℕ) where
         (λ (d : b ≡ addressIn s y → ⊥). rw (ne-eqb b (addressIn s y) d, ne-eqb (addressIn s y) b (λ e. d (sym e))) (omega arith))
         (eq? b (addressIn s y)))
 
+    removed-shape : removed s y .shape ≡ s .shape
+    unfolding removed
+    removed-shape = refl
+
     removed-size : size (removed s y) ≡ size s
     unfolding removed
     removed-size = refl
 
     pub shrink-scan : contractScan (removed s y) ≡ shrinkScan s (addressIn s y)
     unfolding contractScan shrinkScan
-    shrink-scan = rw (removed-held, removed-size, removed-bucket (size s - 1))
+    shrink-scan = rw (removed-held, removed-shape, removed-size, removed-bucket (size s - 1))

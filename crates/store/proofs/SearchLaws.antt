@@ -6,6 +6,7 @@ use Prim.Native.Nat.{ℕ, _+_, _-_, _≤_, _<_}
 use borrow.Author.Tests.{eq-eqb, ne-eqb}
 use lib.Dec.{eqb}
 use lib.ListN.{getD}
+use Rattle.model.specs.Shape.{Shape}
 use Rattle.model.specs.Lists.{all, from}
 use Rattle.model.specs.Layout.{cardWord}
 use Rattle.model.specs.Meaning.{nextCard}
@@ -14,44 +15,44 @@ use Rattle.store.proofs.Rows.{and-rest, and-fails, testFrom, test-more,
 use Rattle.store.proofs.AlongLaws.{Along, along-start}
 
 -- the words of a key from the k-th on are those of card i
-unfoldable pub keyFrom : List ℕ → ℕ → List ℕ → ℕ → Bool
-keyFrom w i key k = all (λ k. eqb (cardWord w i (k + 2)) (getD key k 0)) (from k (4 - k))
+unfoldable pub keyFrom : Shape → List ℕ → ℕ → List ℕ → ℕ → Bool
+keyFrom sh w i key k = all (λ k. eqb (cardWord sh w i (k + 2)) (getD key k 0)) (from k (4 - k))
 
-module _ (w : List ℕ) (i : ℕ) (key : List ℕ) where
-  pub key-other : (len : ℕ) → (cardWord w i 1 ≡ len → ⊥) → hasKey w i len key ≡ false
+module _ (sh : Shape) (w : List ℕ) (i : ℕ) (key : List ℕ) where
+  pub key-other : (len : ℕ) → (cardWord sh w i 1 ≡ len → ⊥) → hasKey sh w i len key ≡ false
   unfolding hasKey
-  key-other len d = and-fails _ (ne-eqb (cardWord w i 1) len d)
+  key-other len d = and-fails _ (ne-eqb (cardWord sh w i 1) len d)
 
-  pub key-start : (len : ℕ) → cardWord w i 1 ≡ len → keyFrom w i key 0 ≡ hasKey w i len key
+  pub key-start : (len : ℕ) → cardWord sh w i 1 ≡ len → keyFrom sh w i key 0 ≡ hasKey sh w i len key
   unfolding hasKey keyFrom
-  key-start len e = sym (and-rest _ (eq-eqb (cardWord w i 1) len e))
+  key-start len e = sym (and-rest _ (eq-eqb (cardWord sh w i 1) len e))
 
-  pub key-more : (k : ℕ) → k < 4 → cardWord w i (k + 2) ≡ getD key k 0 → keyFrom w i key (k + 1) ≡ keyFrom w i key k
+  pub key-more : (k : ℕ) → k < 4 → cardWord sh w i (k + 2) ≡ getD key k 0 → keyFrom sh w i key (k + 1) ≡ keyFrom sh w i key k
   unfolding keyFrom testFrom
-  key-more k h e = test-more (λ k. eqb (cardWord w i (k + 2)) (getD key k 0)) k 4 h (eq-eqb _ _ e)
+  key-more k h e = test-more (λ k. eqb (cardWord sh w i (k + 2)) (getD key k 0)) k 4 h (eq-eqb _ _ e)
 
-  pub key-fails : (k : ℕ) → k < 4 → (cardWord w i (k + 2) ≡ getD key k 0 → ⊥) → keyFrom w i key k ≡ false
+  pub key-fails : (k : ℕ) → k < 4 → (cardWord sh w i (k + 2) ≡ getD key k 0 → ⊥) → keyFrom sh w i key k ≡ false
   unfolding keyFrom testFrom
-  key-fails k h d = test-fails (λ k. eqb (cardWord w i (k + 2)) (getD key k 0)) k 4 h (ne-eqb _ _ d)
+  key-fails k h d = test-fails (λ k. eqb (cardWord sh w i (k + 2)) (getD key k 0)) k 4 h (ne-eqb _ _ d)
 
-  pub key-ends : (k : ℕ) → 4 ≤ k → keyFrom w i key k ≡ true
+  pub key-ends : (k : ℕ) → 4 ≤ k → keyFrom sh w i key k ≡ true
   unfolding keyFrom testFrom
-  key-ends k h = test-ends (λ k. eqb (cardWord w i (k + 2)) (getD key k 0)) k 4 h
+  key-ends k h = test-ends (λ k. eqb (cardWord sh w i (k + 2)) (getD key k 0)) k 4 h
 
 -- what the search has to do at cell i: the card there, or on to the cells behind it
-module _ (w : List ℕ) (len : ℕ) (key : List ℕ) where
-  pub search-none : (n prev : ℕ) → searchIn w len key [] n prev ≡ record { held = false; place = n; cell = 0; prev = prev }
+module _ (sh : Shape) (w : List ℕ) (len : ℕ) (key : List ℕ) where
+  pub search-none : (n prev : ℕ) → searchIn sh w len key [] n prev ≡ record { held = false; place = n; cell = 0; prev = prev }
   unfolding searchIn
   search-none n prev = refl
 
-  pub search-hit : (i n prev : ℕ) → hasKey w i len key ≡ true → (l : List ℕ) → searchIn w len key (i ∷ l) n prev ≡ record { held = true; place = n + 1; cell = i; prev = prev }
+  pub search-hit : (i n prev : ℕ) → hasKey sh w i len key ≡ true → (l : List ℕ) → searchIn sh w len key (i ∷ l) n prev ≡ record { held = true; place = n + 1; cell = i; prev = prev }
   unfolding searchIn
   search-hit i n prev e l = rw e
 
-  pub search-on : (i n prev : ℕ) → hasKey w i len key ≡ false → (l : List ℕ) → searchIn w len key (i ∷ l) n prev ≡ searchIn w len key l (n + 1) i
+  pub search-on : (i n prev : ℕ) → hasKey sh w i len key ≡ false → (l : List ℕ) → searchIn sh w len key (i ∷ l) n prev ≡ searchIn sh w len key l (n + 1) i
   unfolding searchIn
   search-on i n prev e l = rw e
 
-  pub search-start : {c h : ℕ} → Ends c (nextCard w) h → Along c (nextCard w) h (searched c w h len key) h 0 (λ l. searchIn w len key l 0 0)
+  pub search-start : {h : ℕ} → Ends (sh .limit) (nextCard sh w) h → Along (sh .limit) (nextCard sh w) h (searched sh w h len key) h 0 (λ l. searchIn sh w len key l 0 0)
   unfolding searched
-  search-start e = along-start (λ l. searchIn w len key l 0 0) e refl
+  search-start e = along-start (λ l. searchIn sh w len key l 0 0) e refl

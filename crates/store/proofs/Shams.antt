@@ -10,8 +10,9 @@ use native.Mathlib.Omega.{arith}
 use lib.ListN.{length, take, replicate}
 use Rattle.model.specs.Lists.{between}
 use Rattle.model.specs.Serial.{allowed, serialOk, validSerial}
+use Rattle.model.specs.Shape.{Shape}
 use Rattle.model.specs.Model.{Store, chainFor, before, fresh}
-use Rattle.model.specs.Layout.{limitsOk, encode, decode, sound}
+use Rattle.model.specs.Layout.{limitsOk, formatOk, shapeOk, encode, decode, sound}
 use Rattle.model.specs.Calls.{Answer, scratchNeed}
 use Rattle.model.specs.Runs.{Act, Act.enter, Act.show, perform, Call, Call.opening, Call.acting, outcome}
 use Rattle.model.specs.Deeds.{tidy}
@@ -35,8 +36,11 @@ abbrev pub Honest : Program → Type 0
 Honest p = (w : List ℕ) (c : Call) → Meets w c (p w c)
 
 -- a fresh store of one card and one fault, and the serial `7` as it travels
-limits : limitsOk 1 1 ≡ true
-unfolding limitsOk between
+one-one : Shape
+one-one = record { format = 1; limit = 1; faultLimit = 1; upper = 4; lower = 2 }
+
+limits : shapeOk one-one ≡ true
+unfolding one-one shapeOk formatOk limitsOk between
 limits = refl
 
 unfoldable seven : List ℕ
@@ -47,34 +51,34 @@ unfolding seven validSerial serialOk allowed between
 seven-valid = refl
 
 abbrev new : List ℕ
-new = encode (fresh 1 1)
+new = encode (fresh one-one)
 
 new-sound : sound new ≡ true
-new-sound = fresh-sound 1 1 limits
+new-sound = fresh-sound one-one limits
 
 -- an act with enough scratch on that store
-on-new : (a : Act) → outcome new tidy a .answer .number ≡ perform (fresh 1 1) a .answer .number
+on-new : (a : Act) → outcome new tidy a .answer .number ≡ perform (fresh one-one) a .answer .number
 on-new a =
-    call-cases new tidy a new-sound (λ o. o .answer .number ≡ perform (fresh 1 1) a .answer .number)
-    (λ h. absurd (omega (arith, tidy-long))) (λ h. rw (read-back (fresh 1 1) (fair-fresh 1 1 limits)))
+    call-cases new tidy a new-sound (λ o. o .answer .number ≡ perform (fresh one-one) a .answer .number)
+    (λ h. absurd (omega (arith, tidy-long))) (λ h. rw (read-back (fresh one-one) (fair-fresh one-one limits)))
 
 -- the card is taken in, and shown it is not held
 entered : outcome new tidy (enter seven 1) .answer .number ≡ 0
-unfolding fresh
+unfolding fresh one-one
 entered =
     on-new (enter seven 1)
-    ∙ enter-numbers (fresh 1 1) (fresh-good 1 1 limits) seven 1 .done .1 (seven-valid, fresh-look 1 1 limits (take 1 seven), omega arith)
+    ∙ enter-numbers (fresh one-one) (fresh-good one-one limits) seven 1 .done .1 (seven-valid, fresh-look one-one limits (take 1 seven), omega arith)
 
 missing : outcome new tidy (show seven 1 []) .answer .number ≡ 7
-missing = on-new (show seven 1 []) ∙ show-numbers (fresh 1 1) seven 1 [] (fresh-good 1 1 limits) .missing .1 (seven-valid, fresh-look 1 1 limits (take 1 seven))
+missing = on-new (show seven 1 []) ∙ show-numbers (fresh one-one) seven 1 [] (fresh-good one-one limits) .missing .1 (seven-valid, fresh-look one-one limits (take 1 seven))
 
 module _ (p : Program) (honest : Honest p) where
   -- it refuses everything
-  pub refuses-everything : ((w scratch : List ℕ) (a : Act) → p w (acting scratch a) .number ≡ 0 → ⊥) → ⊥
+  pub refuses-everything : ((w scratch : List ℕ) (a : Act) → p w (acting scratch a) .answer .number ≡ 0 → ⊥) → ⊥
   refuses-everything sham = sham new tidy (enter seven 1) (honest new (acting tidy (enter seven 1)) .answer .number-is ∙ entered)
 
   -- it has one number for every call, even if only for calls with enough scratch on sound words
-  pub constant-answer : (k : ℕ) → ((w scratch : List ℕ) (a : Act) → sound w ≡ true → scratchNeed ≤ length scratch → p w (acting scratch a) .number ≡ k) → ⊥
+  pub constant-answer : (k : ℕ) → ((w scratch : List ℕ) (a : Act) → sound w ≡ true → scratchNeed ≤ length scratch → p w (acting scratch a) .answer .number ≡ k) → ⊥
   constant-answer k sham =
       let e = honest new (acting tidy (enter seven 1)) .answer .number-is ∙ entered in
       let m = honest new (acting tidy (show seven 1 [])) .answer .number-is ∙ missing in
@@ -88,15 +92,15 @@ module _ (p : Program) (honest : Honest p) where
 -- it works at its first call and then feigns: but in a sequence that meets the contracts each call that is done, and is there to change the store, leaves other
 -- words than it found, the first and every later one
 abbrev pub Works : List ℕ → Call → Given → Type 0
-Works w (opening c f) g = Unit {0}
-Works w (acting scratch a) g = Changing a → g .number ≡ 0 → g .words ≡ w → ⊥
+Works w (opening t) g = Unit {0}
+Works w (acting scratch a) g = Changing a → g .answer .number ≡ 0 → g .words ≡ w → ⊥
 
 abbrev pub NoneFeigned : List ℕ → List Made → Type 0
 NoneFeigned w [] = Unit {0}
 NoneFeigned w (m ∷ ms) = Works w (m .call) (m .gives) × NoneFeigned (m .gives .words) ms
 
 works : (w : List ℕ) (c : Call) (g : Given) → Meets w c g → Works w c g
-works w (opening c f) g m = tt
+works w (opening t) g m = tt
 works w (acting scratch a) g m = λ c z e. done-changes w scratch a c (sym (m .answer .number-is) ∙ z) (sym (m .words-are) ∙ e)
 
 pub none-feigned : (w : List ℕ) (ms : List Made) → AllMeet w ms → NoneFeigned w ms
@@ -107,13 +111,13 @@ none-feigned w (m ∷ ms) a = (works w (m .call) (m .gives) (a .0), none-feigned
 pub record Counted (s : Store) (a : Act) (g : Given) : Type 0 where
   -- the card's place in its chain, from 1: the chain is the cards before it, the card, and those behind it
   pub place : Searches a → length (look s (serialOf a)) ≡ 1
-      → Present (serialOf a) (chainFor s (serialOf a)) × (g .comparisons ≡ length (before (serialOf a) (chainFor s (serialOf a))) + 1)
+      → Present (serialOf a) (chainFor s (serialOf a)) × (g .answer .comparisons ≡ length (before (serialOf a) (chainFor s (serialOf a))) + 1)
   -- else the chain's length, and 0 before the search
-  pub chain-length : Searches a → look s (serialOf a) ≡ [] → g .comparisons ≡ length (chainFor s (serialOf a))
-  pub not-searched : (Searches a → ⊥) → g .comparisons ≡ 0
+  pub chain-length : Searches a → look s (serialOf a) ≡ [] → g .answer .comparisons ≡ length (chainFor s (serialOf a))
+  pub not-searched : (Searches a → ⊥) → g .answer .comparisons ≡ 0
   -- the length of the bucket that is split or goes
-  pub scans : g .number ≡ 0 → g .scanned ≡ scanOf s a
-  pub scans-none : (g .number ≡ 0 → ⊥) → g .scanned ≡ 0
+  pub scans : g .answer .number ≡ 0 → g .answer .scanned ≡ scanOf s a
+  pub scans-none : (g .answer .number ≡ 0 → ⊥) → g .answer .scanned ≡ 0
 
 pub none-invented : (w : List ℕ) → sound w ≡ true → (scratch : List ℕ) → scratchNeed ≤ length scratch → (a : Act) (g : Given) → Meets w (acting scratch a) g → Counted (decode w) a g
 none-invented w ok scratch h a g m =

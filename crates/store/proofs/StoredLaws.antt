@@ -10,7 +10,7 @@ use lib.ListN.{length, getD, length-map}
 use Rattle.rules.proofs.Tests.{all-of}
 use Rattle.model.specs.Lists.{between, all, join, total}
 use Rattle.model.specs.Model.{Fault, Card, Store, cards, bucket, cellsOf, faultCellsOf}
-use Rattle.model.specs.Layout.{Cell, atsOf, headOr, chained, cardWidth, faultWidth, segmentsAt, cardsAt, faultsAt, first, last, follow, cardCell, faultCell, cardChains, faultChains, front, cardWord, faultWord, readCard, readChain, decode}
+use Rattle.model.specs.Layout.{Cell, atsOf, headOr, chained, cardWidth, faultWidth, segmentsAt, cardsAt, faultsAt, first, last, follow, cardCell, faultCell, cardChains, faultChains, front, cardWord, faultWord, readCard, readChain, decodeAs, decode}
 use Rattle.model.specs.Meaning.{Leads, nextCard, nextFault}
 use Rattle.model.proofs.Lists.{between-is, map-append, Every, every-parts, every-join}
 use Rattle.model.proofs.Sums.{bit, bit-same, total-append, total-one}
@@ -19,9 +19,11 @@ use Rattle.model.proofs.Chains.{Memory, Stand, stand-parts, chained-append}
 use Rattle.model.proofs.Part.{cellIn, Held, held-follow}
 use Rattle.model.proofs.Fair.{inCell, card-cells}
 use Rattle.model.proofs.Rep.{Rep, rep-front, size-top}
-use Rattle.model.proofs.Decode.{head-faults, segment-at, limit-at, fault-limit-at, cards-at, read-chain}
+use Rattle.model.proofs.Decode.{head-faults, segment-at, cards-at, read-chain}
+use Rattle.model.proofs.Shapes.{in-card}
 use Rattle.model.proofs.Split.{ats-cards}
-use Rattle.store.specs.Cells.{Read}
+use Rattle.store.specs.declared.cells.Header.{Header}
+use Rattle.store.specs.Cells.{shapeIn, Read}
 use Rattle.store.specs.Search.{Ends, faultsFrom}
 
 -- chains of any cells
@@ -48,86 +50,85 @@ held-ends w base width n chains z e r j =
 -- a card of a chain, with the cards behind it, as its cell stands in the words
 pub record Stored (w : List ℕ) (s : Store) (c : Card) (after : List Card) : Type 0 where
   pub from-one : 1 ≤ c .at
-  pub in-limit : c .at ≤ s .limit
-  pub last-word : cardWord w (c .at) 7 ≡ last (faultCellsOf (c .faults))
-  pub count-word : cardWord w (c .at) 8 ≡ length (c .faults)
-  pub history : faultsFrom (s .faultLimit) w (cardWord w (c .at) 6) ≡ c .faults
-  pub history-ends : Ends (s .faultLimit) (nextFault w) (cardWord w (c .at) 6)
+  pub in-limit : c .at ≤ s .shape .limit
+  pub last-word : cardWord (s .shape) w (c .at) 7 ≡ last (faultCellsOf (c .faults))
+  pub count-word : cardWord (s .shape) w (c .at) 8 ≡ length (c .faults)
+  pub history : faultsFrom (s .shape) w (cardWord (s .shape) w (c .at) 6) ≡ c .faults
+  pub history-ends : Ends (s .shape .faultLimit) (nextFault (s .shape) w) (cardWord (s .shape) w (c .at) 6)
 
 module _ {w : List ℕ} {s : Store} (r : Rep w s) where
   -- buckets
 
   module _ (b : ℕ) (h : b < length (s .buckets)) where
-    bucket-head : getD w (segmentsAt + b) 0 ≡ headOr 0 (getD (cardChains s) (suc b) [])
+    bucket-head : getD w (segmentsAt (s .shape) + b) 0 ≡ headOr 0 (getD (cardChains s) (suc b) [])
     unfolding cardsAt
     bucket-head =
-        rep-front r (segmentsAt + b) (omega (arith, r .fair .number, size-top s (r .fair))) ∙ segment-at s b h ∙ ap (headOr 0) (sym (cards-at w s r b))
+        rep-front r (segmentsAt (s .shape) + b) (omega (arith, r .fair .number, size-top s (r .fair))) ∙ segment-at s b h ∙ ap (headOr 0) (sym (cards-at w s r b))
 
-    pub bucket-ends : Ends (s .limit) (nextCard w) (getD w (segmentsAt + b) 0)
+    pub bucket-ends : Ends (s .shape .limit) (nextCard (s .shape) w) (getD w (segmentsAt (s .shape) + b) 0)
     unfolding cardWord
-    bucket-ends = rw bucket-head (held-ends w cardsAt cardWidth (s .limit) (cardChains s) (lit< tt) (r .fair .cells) (r .cards) (suc b))
+    bucket-ends = rw bucket-head (held-ends w (cardsAt (s .shape)) (cardWidth (s .shape)) (s .shape .limit) (cardChains s) (in-card (s .shape) (lit< tt)) (r .fair .cells) (r .cards) (suc b))
 
-    pub bucket-cells : follow (s .limit) (nextCard w) (getD w (segmentsAt + b) 0) ≡ cellsOf (bucket s b)
+    pub bucket-cells : follow (s .shape .limit) (nextCard (s .shape) w) (getD w (segmentsAt (s .shape) + b) 0) ≡ cellsOf (bucket s b)
     unfolding cardWord
     bucket-cells =
         rw bucket-head
-        (held-follow w cardsAt cardWidth (s .limit) (cardChains s) (lit< tt) (r .fair .cells) (r .cards) (suc b) ∙ ap atsOf (cards-at w s r b) ∙ ats-cards (bucket s b))
+        (held-follow w (cardsAt (s .shape)) (cardWidth (s .shape)) (s .shape .limit) (cardChains s) (in-card (s .shape) (lit< tt)) (r .fair .cells) (r .cards) (suc b) ∙ ap atsOf (cards-at w s r b) ∙ ats-cards (bucket s b))
 
   -- the cells of a bucket stand as a chain
-  pub bucket-stand : (b : ℕ) → Stand (cellIn w cardsAt cardWidth) cardWidth (chained 0 (map cardCell (bucket s b)))
-  bucket-stand b = subst (λ (l : List Cell). Stand (cellIn w cardsAt cardWidth) cardWidth (chained 0 l)) (cards-at w s r b) (r .cards (suc b))
+  pub bucket-stand : (b : ℕ) → Stand (cellIn w (cardsAt (s .shape)) (cardWidth (s .shape))) (cardWidth (s .shape)) (chained 0 (map cardCell (bucket s b)))
+  bucket-stand b = subst (λ (l : List Cell). Stand (cellIn w (cardsAt (s .shape)) (cardWidth (s .shape))) (cardWidth (s .shape)) (chained 0 l)) (cards-at w s r b) (r .cards (suc b))
 
   -- histories
 
-  filed-ends : Every (λ c. Ends (s .faultLimit) (nextFault w) (first (faultCellsOf (c .faults)))) (cards s)
+  filed-ends : Every (λ c. Ends (s .shape .faultLimit) (nextFault (s .shape) w) (first (faultCellsOf (c .faults)))) (cards s)
   unfolding faultWord
   filed-ends =
       go (cards s)
-      (λ j. subst (λ (l : ℕ). Ends (s .faultLimit) (λ i. cellIn w (faultsAt l) faultWidth i 0) (headOr 0 (getD (faultChains s) (suc j) []))) (sym (limit-at w s r))
-      (held-ends w (faultsAt (s .limit)) faultWidth (s .faultLimit) (faultChains s) (lit< tt) (r .fair .faultCells) (r .faults) (suc j)))
+      (λ j. held-ends w (faultsAt (s .shape)) faultWidth (s .shape .faultLimit) (faultChains s) (lit< tt) (r .fair .faultCells) (r .faults) (suc j))
     where
-      go : (cs : List Card) → ((j : ℕ) → Ends (s .faultLimit) (nextFault w) (headOr 0 (getD (map (λ c. map faultCell (c .faults)) cs) j [])))
-          → Every (λ c. Ends (s .faultLimit) (nextFault w) (first (faultCellsOf (c .faults)))) cs
+      go : (cs : List Card) → ((j : ℕ) → Ends (s .shape .faultLimit) (nextFault (s .shape) w) (headOr 0 (getD (map (λ c. map faultCell (c .faults)) cs) j [])))
+          → Every (λ c. Ends (s .shape .faultLimit) (nextFault (s .shape) w) (first (faultCellsOf (c .faults)))) cs
       go [] f = tt
       go (c ∷ cs) f = (rw (head-faults (c .faults)) (f 0), go cs (λ j. f (suc j)))
 
-  filed-read : (b : ℕ) → b < length (s .buckets) → Every (λ c. faultsFrom (s .faultLimit) w (cardWord w (c .at) 6) ≡ c .faults) (bucket s b)
+  filed-read : (b : ℕ) → b < length (s .buckets) → Every (λ c. faultsFrom (s .shape) w (cardWord (s .shape) w (c .at) 6) ≡ c .faults) (bucket s b)
   unfolding readChain readCard faultsFrom
   filed-read b h =
-      subst (Every (λ (c : Card). faultsFrom (s .faultLimit) w (cardWord w (c .at) 6) ≡ c .faults)) (read-chain w s r b h)
-      (go (follow (getD w 1 0) (nextCard w) (getD w (segmentsAt + b) 0)))
+      subst (Every (λ (c : Card). faultsFrom (s .shape) w (cardWord (s .shape) w (c .at) 6) ≡ c .faults)) (read-chain w s r b h)
+      (go (follow (s .shape .limit) (nextCard (s .shape) w) (getD w (segmentsAt (s .shape) + b) 0)))
     where
-      go : (l : List ℕ) → Every (λ (c : Card). faultsFrom (s .faultLimit) w (cardWord w (c .at) 6) ≡ c .faults) (map (readCard w) l)
+      go : (l : List ℕ) → Every (λ (c : Card). faultsFrom (s .shape) w (cardWord (s .shape) w (c .at) 6) ≡ c .faults) (map (readCard (s .shape) w) l)
       go [] = tt
-      go (i ∷ l) = (rw (fault-limit-at w s r), go l)
+      go (i ∷ l) = (refl, go l)
 
   -- a card with the cards before it and behind it
   pub stored : (b : ℕ) → b < length (s .buckets) → (front : List Card) (c : Card) (after : List Card) → bucket s b ≡ front ++ (c ∷ after) → Stored w s c after
   unfolding cardCell cardWord
   stored b h front c after e =
-      let q = stand-parts cardWidth (cellIn w cardsAt cardWidth) (chained (c .at) (map cardCell front)) (chained 0 (map cardCell (c ∷ after)))
-      (subst (Stand (cellIn w cardsAt cardWidth) cardWidth) (ap (λ (l : List Card). chained 0 (map cardCell l)) e ∙ ap (chained 0) (map-append cardCell front (c ∷ after)) ∙ chained-append 0 (map cardCell front) (map cardCell (c ∷ after))) (bucket-stand b)) .1 .0 in
-      let f = one (λ c. Ends (s .faultLimit) (nextFault w) (first (faultCellsOf (c .faults)))) (every-join _ (s .buckets) filed-ends b) in
-      let g = one (λ c. faultsFrom (s .faultLimit) w (cardWord w (c .at) 6) ≡ c .faults) (filed-read b h) in
+      let q = stand-parts (cardWidth (s .shape)) (cellIn w (cardsAt (s .shape)) (cardWidth (s .shape))) (chained (c .at) (map cardCell front)) (chained 0 (map cardCell (c ∷ after)))
+      (subst (Stand (cellIn w (cardsAt (s .shape)) (cardWidth (s .shape))) (cardWidth (s .shape))) (ap (λ (l : List Card). chained 0 (map cardCell l)) e ∙ ap (chained 0) (map-append cardCell front (c ∷ after)) ∙ chained-append 0 (map cardCell front) (map cardCell (c ∷ after))) (bucket-stand b)) .1 .0 in
+      let f = one (λ c. Ends (s .shape .faultLimit) (nextFault (s .shape) w) (first (faultCellsOf (c .faults)))) (every-join _ (s .buckets) filed-ends b) in
+      let g = one (λ c. faultsFrom (s .shape) w (cardWord (s .shape) w (c .at) 6) ≡ c .faults) (filed-read b h) in
       let i = inside in
       record {
         from-one = i .0;
         in-limit = i .1;
-        last-word = q 7 (lit< tt);
-        count-word = q 8 (lit< tt) ∙ length-map (c .faults) (λ (f : Fault). f .at);
+        last-word = q 7 (in-card (s .shape) (lit< tt));
+        count-word = q 8 (in-card (s .shape) (lit< tt)) ∙ length-map (c .faults) (λ (f : Fault). f .at);
         history = g;
-        history-ends = rw (q 6 (lit< tt)) f;
+        history-ends = rw (q 6 (in-card (s .shape) (lit< tt))) f;
       }
     where
       one : (P : Card → Type 0) → Every P (bucket s b) → P c
       one P p = every-parts P front (c ∷ after) (subst (Every P) e p) .1 .0
 
-      inside : (1 ≤ c .at) × (c .at ≤ s .limit)
+      inside : (1 ≤ c .at) × (c .at ≤ s .shape .limit)
       inside =
           r .fair .cells .inside (c .at)
           (omega (arith, card-cells s (c .at), total-one (inCell (c .at)) (s .buckets) b, ap (total (inCell (c .at))) e, total-append (inCell (c .at)) front (c ∷ after), bit-same (c .at) (c .at) refl))
 
--- the limits and the state of the store read from words are those of its header
-pub read-store : {w : List ℕ} {c f m p : ℕ} → Read w c f m p → (decode w .limit ≡ c) × (decode w .faultLimit ≡ f) × (decode w .maxp ≡ m) × (decode w .p ≡ p)
-unfolding decode
-read-store h = (h .sized .limit, h .sized .faultLimit, h .maxp, h .state)
+-- the shape and the state of the store read from words are those of its header
+pub read-store : {w : List ℕ} {h : Header} → Read w h → (decode w .shape ≡ shapeIn h) × (decode w .maxp ≡ h .maxp) × (decode w .p ≡ h .p)
+unfolding decodeAs
+read-store h = (h .shape, h .maxp, h .state)

@@ -1,32 +1,65 @@
--- Words of cells as the code reads them, for cards and for faults alike.
+-- The header as the code reads it, and words of cells by it, for cards and for faults alike.
 use mathlib.Core.Path.{_≡_}
 use mathlib.Core.Bool.{Bool, true, false, _&&_, cond}
 use mathlib.Core.List.{List, [], _∷_, _++_}
-use Prim.Native.Nat.{ℕ, zero, suc, _+_, _-_, _*_, _≤_}
+use Prim.Native.Nat.{ℕ, zero, suc, _+_, _-_, _*_, _≤_, _<_}
 use lib.Dec.{eqb}
 use lib.ListN.{length, take, getD}
 use Rattle.rules.specs.Code.{codeOf}
 use Rattle.rules.specs.Table.{top, addressOf}
 use Rattle.model.specs.Lists.{between, all, from}
+use Rattle.model.specs.Shape.{Shape, topOf}
 use Rattle.model.specs.Serial.{validSerial, validFault}
-use Rattle.model.specs.Layout.{limitAt, faultLimitAt, maxpAt, pAt, toNext, toLength, toSerial, toDay, toCode}
-use Rattle.model.specs.Layout.{mostCards, mostFaults, segmentsAt, cardWidth, faultWidth, cardWord, faultWord, packed, bytesOf}
+use Rattle.model.specs.Layout.{maxpAt, pAt, toNext, toLength, toSerial, toDay, toCode}
+use Rattle.model.specs.Layout.{mostCards, mostFaults, directoryAt, segmentsAt, cardWidth, faultWidth, cardsAt, faultsAt, lengthFor, shapeOk, shapeOf, cardWord, faultWord, packed, bytesOf}
+use Rattle.model.specs.Calls.{Terms}
+use Rattle.store.specs.declared.front.Shape as told
+use Rattle.store.specs.declared.cells.Header.{Header}
 
--- the words are as long as their limits ask
-pub record Sized (w : List ℕ) (c f : ℕ) : Type 0 where
-  pub some : 1 ≤ c
-  pub most : c ≤ mostCards
-  pub someFaults : 1 ≤ f
-  pub mostFaults : f ≤ mostFaults
-  pub long : length w ≡ segmentsAt + top + cardWidth * c + faultWidth * f
-  pub limit : getD w limitAt 0 ≡ c
-  pub faultLimit : getD w faultLimitAt 0 ≡ f
+-- the shape that the code holds by itself, and the one in a header
+abbrev pub shapeBy : told.Shape → Shape
+shapeBy s = record { format = s .format; limit = s .cards; faultLimit = s .faults; upper = s .upper; lower = s .lower }
 
--- the header as the code read it once: the words are sized, and (m, p) is the state that they hold
-pub record Read (w : List ℕ) (c f m p : ℕ) : Type 0 where
-  pub sized : Sized w c f
-  pub maxp : getD w maxpAt 0 ≡ m
-  pub state : getD w pAt 0 ≡ p
+abbrev pub shapeIn : Header → Shape
+shapeIn h = record { format = h .format; limit = h .cards; faultLimit = h .faults; upper = h .upper; lower = h .lower }
+
+-- what Open is asked for
+abbrev pub asked : ℕ → ℕ → Terms
+asked cards faults = record { cards = cards; faults = faults }
+
+-- the layout of a header in numbers, and that so many words hold it
+pub record Room (w : List ℕ) (h : Header) : Type 0 where
+  pub first : directoryAt + 16 ≤ h .segments
+  pub least : 256 ≤ h .top
+  pub most : h .top ≤ top
+  pub table : h .base ≡ h .segments + h .top
+  pub within : h .base ≤ h .behind
+  pub whole : length w ≡ h .behind + faultWidth * h .faults
+  pub few : length w < 65536
+  pub nine : 9 ≤ h .width
+  pub cards : 1 ≤ h .cards
+  pub faults : 1 ≤ h .faults
+  pub mostCards : h .cards ≤ mostCards
+  pub mostFaults : h .faults ≤ mostFaults
+
+-- the words are as long as the header's shape asks, and the header says where the parts begin; `room` is what follows in numbers. Of the
+-- words this looks at their length alone, so that no write disturbs it
+pub record Sized (w : List ℕ) (h : Header) : Type 0 where
+  pub ok : shapeOk (shapeIn h) ≡ true
+  pub long : length w ≡ lengthFor (shapeIn h)
+  pub top : h .top ≡ topOf (shapeIn h)
+  pub segments : h .segments ≡ segmentsAt (shapeIn h)
+  pub base : h .base ≡ cardsAt (shapeIn h)
+  pub width : h .width ≡ cardWidth (shapeIn h)
+  pub behind : h .behind ≡ faultsAt (shapeIn h)
+  pub room : Room w h
+
+-- the header as the code read it once: the words are sized, they tell its shape, and hold its state
+pub record Read (w : List ℕ) (h : Header) : Type 0 where
+  pub sized : Sized w h
+  pub shape : shapeOf w ≡ shapeIn h
+  pub maxp : getD w maxpAt 0 ≡ h .maxp
+  pub state : getD w pAt 0 ≡ h .p
 
 -- four bytes as a word, the first highest
 abbrev pub fourBytes : ℕ → ℕ → ℕ → ℕ → ℕ
@@ -40,46 +73,46 @@ abbrev pub unpackedAll : ℕ → ℕ → ℕ → ℕ → List ℕ
 unpackedAll a b c d = bytesOf a ++ (bytesOf b ++ (bytesOf c ++ bytesOf d))
 
 -- a card's sixteen bytes as they stand in its cell
-unfoldable pub bytesAt : List ℕ → ℕ → List ℕ
-bytesAt w i = unpackedAll (cardWord w i toSerial) (cardWord w i (toSerial + 1)) (cardWord w i (toSerial + 2)) (cardWord w i (toSerial + 3))
+unfoldable pub bytesAt : Shape → List ℕ → ℕ → List ℕ
+bytesAt sh w i = unpackedAll (cardWord sh w i toSerial) (cardWord sh w i (toSerial + 1)) (cardWord sh w i (toSerial + 2)) (cardWord sh w i (toSerial + 3))
 
 -- word k of cell i of the faults or of the cards, how many words a cell has, and how many cells there are
-unfoldable pub cellWord : List ℕ → Bool → ℕ → ℕ → ℕ
-cellWord w faults i k = cond faults (faultWord w i k) (cardWord w i k)
+unfoldable pub cellWord : Shape → List ℕ → Bool → ℕ → ℕ → ℕ
+cellWord sh w faults i k = cond faults (faultWord sh w i k) (cardWord sh w i k)
 
-unfoldable pub widthOf : Bool → ℕ
-widthOf faults = cond faults faultWidth cardWidth
+unfoldable pub widthOf : Shape → Bool → ℕ
+widthOf sh faults = cond faults faultWidth (cardWidth sh)
 
-unfoldable pub limitOf : List ℕ → Bool → ℕ
-limitOf w faults = cond faults (getD w faultLimitAt 0) (getD w limitAt 0)
+unfoldable pub limitOf : Shape → Bool → ℕ
+limitOf sh faults = cond faults (sh .faultLimit) (sh .limit)
 
 -- two cards have the same length word and the same four words
-unfoldable pub sameKey : List ℕ → ℕ → ℕ → Bool
-sameKey w i j =
-    eqb (cardWord w i toLength) (cardWord w j toLength) && (eqb (cardWord w i toSerial) (cardWord w j toSerial)
-    && (eqb (cardWord w i (toSerial + 1)) (cardWord w j (toSerial + 1)) && (eqb (cardWord w i (toSerial + 2)) (cardWord w j (toSerial + 2))
-    && eqb (cardWord w i (toSerial + 3)) (cardWord w j (toSerial + 3)))))
+unfoldable pub sameKey : Shape → List ℕ → ℕ → ℕ → Bool
+sameKey sh w i j =
+    eqb (cardWord sh w i toLength) (cardWord sh w j toLength) && (eqb (cardWord sh w i toSerial) (cardWord sh w j toSerial)
+    && (eqb (cardWord sh w i (toSerial + 1)) (cardWord sh w j (toSerial + 1)) && (eqb (cardWord sh w i (toSerial + 2)) (cardWord sh w j (toSerial + 2))
+    && eqb (cardWord sh w i (toSerial + 3)) (cardWord sh w j (toSerial + 3)))))
 
 -- from cell j on, cell i is met before any other card with its key, and within `fuel` cells
-unfoldable pub metFirst : ℕ → List ℕ → ℕ → ℕ → Bool
-metFirst zero w j i = false
-metFirst (suc fuel) w j i =
-    let rest = metFirst fuel w (cardWord w j toNext) i in
-    cond (eqb j i) true (cond (between 1 (getD w limitAt 0) j) (cond (sameKey w j i) false rest) false)
+unfoldable pub metFirst : ℕ → Shape → List ℕ → ℕ → ℕ → Bool
+metFirst zero sh w j i = false
+metFirst (suc fuel) sh w j i =
+    let rest = metFirst fuel sh w (cardWord sh w j toNext) i in
+    cond (eqb j i) true (cond (between 1 (sh .limit) j) (cond (sameKey sh w j i) false rest) false)
 
 -- what a cell has to be by itself: in the free chain, in a history, in bucket b
-unfoldable pub freeFits : List ℕ → Bool → ℕ → Bool
-freeFits w faults i = all (λ k. eqb (cellWord w faults i k) 0) (from 1 (widthOf faults - 1))
+unfoldable pub freeFits : Shape → List ℕ → Bool → ℕ → Bool
+freeFits sh w faults i = all (λ k. eqb (cellWord sh w faults i k) 0) (from 1 (widthOf sh faults - 1))
 
-unfoldable pub faultFits : List ℕ → ℕ → Bool
-faultFits w i = validFault (faultWord w i toDay) (faultWord w i toCode)
+unfoldable pub faultFits : Shape → List ℕ → ℕ → Bool
+faultFits sh w i = validFault (faultWord sh w i toDay) (faultWord sh w i toCode)
 
-unfoldable pub cardFits : List ℕ → ℕ → ℕ → Bool
-cardFits w b i =
-    validSerial (bytesAt w i) (cardWord w i toLength)
-    && (eqb (addressOf (codeOf (take (cardWord w i toLength) (bytesAt w i))) (getD w maxpAt 0) (getD w pAt 0)) b
-    && metFirst (getD w limitAt 0) w (getD w (segmentsAt + b) 0) i)
+unfoldable pub cardFits : Shape → List ℕ → ℕ → ℕ → Bool
+cardFits sh w b i =
+    validSerial (bytesAt sh w i) (cardWord sh w i toLength)
+    && (eqb (addressOf (codeOf (take (cardWord sh w i toLength) (bytesAt sh w i))) (getD w maxpAt 0) (getD w pAt 0)) b
+    && metFirst (sh .limit) sh w (getD w (segmentsAt sh + b) 0) i)
 
--- b is a bucket of cards, anything below `top` for a history, and `top` for a free chain
-unfoldable pub cellFits : List ℕ → Bool → ℕ → ℕ → Bool
-cellFits w faults b i = cond (eqb b top) (freeFits w faults i) (cond faults (faultFits w i) (cardFits w b i))
+-- b is a bucket of cards, anything below the most for a history, and the most for a free chain
+unfoldable pub cellFits : Shape → List ℕ → Bool → ℕ → ℕ → Bool
+cellFits sh w faults b i = cond (eqb b (topOf sh)) (freeFits sh w faults i) (cond faults (faultFits sh w i) (cardFits sh w b i))

@@ -4,24 +4,29 @@ use mathlib.Core.List.{List}
 use Prim.Native.Nat.{ℕ}
 use Rattle.model.specs.Layout.{encode}
 use Rattle.model.specs.Calls.{Answer, Outcome, Step, Opened}
+use Rattle.store.specs.declared.Answer as given
 
 -- number, comparisons, cards scanned and faults are those of an answer
-pub record Gives (a : Answer) (number comparisons scanned faults : ℕ) : Type 0 where
-  pub number-is : number ≡ a .number
-  pub comparisons-are : comparisons ≡ a .comparisons
-  pub scanned-is : scanned ≡ a .scanned
-  pub faults-are : faults ≡ a .faults
+pub record Gives (a : Answer) (r : given.Answer) : Type 0 where
+  pub number-is : r .number ≡ a .number
+  pub comparisons-are : r .comparisons ≡ a .comparisons
+  pub scanned-is : r .scanned ≡ a .scanned
+  pub faults-are : r .faults ≡ a .faults
 
--- an entry point: the four numbers, and all that store, room and scratch hold afterwards
-pub record Leaves (o : Outcome) (number comparisons scanned faults : ℕ) (words room scratch : List ℕ) : Type 0 where
-  pub answer : Gives (o .answer) number comparisons scanned faults
+-- the answer of a call that is refused before it looks at the serial
+abbrev pub turned : ℕ → given.Answer
+turned k = record { number = k; comparisons = 0; scanned = 0; faults = 0 }
+
+-- an entry point: the answer, and all that store, room and scratch hold afterwards
+pub record Leaves (o : Outcome) (r : given.Answer) (words room scratch : List ℕ) : Type 0 where
+  pub answer : Gives (o .answer) r
   pub words-are : words ≡ o .words
   pub room-is : room ≡ o .room
   pub scratch-is : scratch ≡ o .scratch
 
 -- the same call on a store known to be sound
-pub record Does (t : Step) (number comparisons scanned faults : ℕ) (words room : List ℕ) : Type 0 where
-  pub answer : Gives (t .answer) number comparisons scanned faults
+pub record Does (t : Step) (r : given.Answer) (words room : List ℕ) : Type 0 where
+  pub answer : Gives (t .answer) r
   pub words-are : words ≡ encode (t .store)
   pub room-is : room ≡ t .room
 

@@ -8,6 +8,7 @@ use lib.Dec.{eqb}
 use lib.ListN.{length, take}
 use Rattle.rules.specs.Table.{splits, contracts}
 use Rattle.model.specs.Serial.{validSerial}
+use Rattle.model.specs.Shape.{topOf}
 use Rattle.model.specs.Model.{Store, held, size, bucket, addressIn, chainFor, found, before, cellsOf, historyIn}
 use Rattle.model.specs.Layout.{first, last, encode}
 use Rattle.model.specs.Calls.{Answer, Step, written, fileStep}
@@ -18,11 +19,11 @@ use Rattle.store.specs.declared.search.Spot.{Spot}
 
 -- with one card more in bucket b: the length of bucket p, if that load splits it
 unfoldable pub growScan : Store → ℕ → ℕ
-growScan s b = cond (splits (held s + 1) (size s)) (length (bucket s (s .p)) + cond (eqb b (s .p)) 1 0) 0
+growScan s b = cond (splits (topOf (s .shape)) (s .shape .upper) (held s + 1) (size s)) (length (bucket s (s .p)) + cond (eqb b (s .p)) 1 0) 0
 
 -- with one card less in bucket b: the length of the last bucket, if that load joins it
 unfoldable pub shrinkScan : Store → ℕ → ℕ
-shrinkScan s b = cond (contracts (held s - 1) (size s)) (length (bucket s (size s - 1)) - cond (eqb b (size s - 1)) 1 0) 0
+shrinkScan s b = cond (contracts (s .shape .lower) (held s - 1) (size s)) (length (bucket s (size s - 1)) - cond (eqb b (size s - 1)) 1 0) 0
 
 -- a plan that refuses, with no place; and one that goes ahead at a spot
 abbrev pub refusal : ℕ → ℕ → ℕ → Plan
@@ -45,7 +46,7 @@ pub record Places (s : Store) (bytes : List ℕ) (n : ℕ) (r : Plan) : Type 0 w
 
 -- a plan for the first n of some bytes: the four numbers of an answer, and the places where it refuses nothing
 pub record Plans (a : Answer) (s : Store) (bytes : List ℕ) (n : ℕ) (r : Plan) : Type 0 where
-  pub answer : Gives a (r .number) (r .comparisons) (r .scanned) (r .faults)
+  pub answer : Gives a (answered r)
   pub places : r .number ≡ 0 → Places s bytes n r
 
 -- the same with any room of so many words: it enters the answer by its length alone

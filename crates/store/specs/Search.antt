@@ -6,6 +6,7 @@ use Prim.Native.Nat.{ℕ, _+_}
 use lib.Dec.{eqb, ltb}
 use lib.ListN.{length, getD}
 use Rattle.model.specs.Lists.{between, all, from}
+use Rattle.model.specs.Shape.{Shape}
 use Rattle.model.specs.Model.{Fault, Store, addressIn, chainFor, found, before, comparisons, cellsOf}
 use Rattle.model.specs.Layout.{toLength, toSerial, serialWords, first, last, follow, cardWord, readFault}
 use Rattle.model.specs.Meaning.{Leads, nextCard, nextFault}
@@ -18,19 +19,19 @@ pub record Ends (limit : ℕ) (next : ℕ → ℕ) (h : ℕ) : Type 0 where
   pub inside : all (between 1 limit) (follow limit next h) ≡ true
 
 -- the card in cell i has this serial length and these four words of serial
-unfoldable pub hasKey : List ℕ → ℕ → ℕ → List ℕ → Bool
-hasKey w i len key = eqb (cardWord w i toLength) len && all (λ k. eqb (cardWord w i (k + toSerial)) (getD key k 0)) (from 0 serialWords)
+unfoldable pub hasKey : Shape → List ℕ → ℕ → ℕ → List ℕ → Bool
+hasKey sh w i len key = eqb (cardWord sh w i toLength) len && all (λ k. eqb (cardWord sh w i (k + toSerial)) (getD key k 0)) (from 0 serialWords)
 
 -- the first of some cells whose card has the key, with n cells behind them, of which prev is the last
-unfoldable pub searchIn : List ℕ → ℕ → List ℕ → List ℕ → ℕ → ℕ → Found
-searchIn w len key [] n prev = record { held = false; place = n; cell = 0; prev = prev }
-searchIn w len key (i ∷ cells) n prev =
-    let rest = searchIn w len key cells (n + 1) i in
-    cond (hasKey w i len key) (record { held = true; place = n + 1; cell = i; prev = prev }) rest
+unfoldable pub searchIn : Shape → List ℕ → ℕ → List ℕ → List ℕ → ℕ → ℕ → Found
+searchIn sh w len key [] n prev = record { held = false; place = n; cell = 0; prev = prev }
+searchIn sh w len key (i ∷ cells) n prev =
+    let rest = searchIn sh w len key cells (n + 1) i in
+    cond (hasKey sh w i len key) (record { held = true; place = n + 1; cell = i; prev = prev }) rest
 
--- the search of the chain from cell h on, of at most c cells
-unfoldable pub searched : ℕ → List ℕ → ℕ → ℕ → List ℕ → Found
-searched c w h len key = searchIn w len key (follow c (nextCard w) h) 0 0
+-- the search of the chain from cell h on
+unfoldable pub searched : Shape → List ℕ → ℕ → ℕ → List ℕ → Found
+searched sh w h len key = searchIn sh w len key (follow (sh .limit) (nextCard sh w) h) 0 0
 
 -- what a store holds of a serial: its bucket, whether a card has it, the card's place or the chain's length, its cell or 0, and the cell
 -- before it, which is the chain's last where no card has it
@@ -41,6 +42,6 @@ pub record Finds (s : Store) (serial : List ℕ) (r : Spot) : Type 0 where
   pub cell-is : r .cell ≡ first (cellsOf (found serial (chainFor s serial)))
   pub prev-is : r .prev ≡ last (cellsOf (before serial (chainFor s serial)))
 
--- the faults from fault cell h on, of at most f cells
-unfoldable pub faultsFrom : ℕ → List ℕ → ℕ → List Fault
-faultsFrom f w h = map (readFault w) (follow f (nextFault w) h)
+-- the faults from fault cell h on
+unfoldable pub faultsFrom : Shape → List ℕ → ℕ → List Fault
+faultsFrom sh w h = map (readFault sh w) (follow (sh .faultLimit) (nextFault sh w) h)

@@ -8,13 +8,11 @@ use lib.Dec.{eqb}
 use Rattle.model.specs.Calls.{openCall}
 use Rattle.model.specs.Runs.{Call, Call.opening, Call.acting, outcome, Event, Event.opened, Event.answered, Tell}
 use Rattle.store.specs.Leaves.{Opens, Leaves}
+use Rattle.store.specs.declared.Answer as given
 
 -- all that a call gives and leaves; Open gives a number and leaves words, and has no more to say
 pub record Given : Type 0 where
-  pub number : ℕ
-  pub comparisons : ℕ
-  pub scanned : ℕ
-  pub faults : ℕ
+  pub answer : given.Answer
   pub words : List ℕ
   pub room : List ℕ
   pub scratch : List ℕ
@@ -26,8 +24,8 @@ pub record Made : Type 0 where
 
 -- the contract of the entry point that was called on the words w
 abbrev pub Meets : List ℕ → Call → Given → Type 0
-Meets w (opening c f) g = Opens (openCall w c f) (g .number) (g .words) × (g .faults ≡ 0) × (g .room ≡ [])
-Meets w (acting scratch act) g = Leaves (outcome w scratch act) (g .number) (g .comparisons) (g .scanned) (g .faults) (g .words) (g .room) (g .scratch)
+Meets w (opening t) g = Opens (openCall w t) (g .answer .number) (g .words) × (g .answer .faults ≡ 0) × (g .room ≡ [])
+Meets w (acting scratch act) g = Leaves (outcome w scratch act) (g .answer) (g .words) (g .room) (g .scratch)
 
 -- each call was made on the words that the one before it left
 abbrev pub AllMeet : List ℕ → List Made → Type 0
@@ -41,8 +39,8 @@ endWords w (m ∷ ms) = endWords (m .gives .words) ms
 
 -- what is known outside: the store opened anew, and each act with the number and the faults that the program gave
 abbrev pub seen : Call → Given → List Event
-seen (opening c f) g = cond (eqb (g .number) 0) (opened ∷ []) []
-seen (acting scratch act) g = answered act (g .number) (g .faults) ∷ []
+seen (opening t) g = cond (eqb (g .answer .number) 0) (opened ∷ []) []
+seen (acting scratch act) g = answered act (g .answer .number) (g .answer .faults) ∷ []
 
 abbrev pub seenOf : List Made → List Event
 seenOf [] = []
@@ -50,4 +48,4 @@ seenOf (m ∷ ms) = seen (m .call) (m .gives) ++ seenOf ms
 
 -- what demand 2 compares
 abbrev pub toldOf : List Made → List Tell
-toldOf = map (λ m. record { number = m .gives .number; faults = m .gives .faults; room = m .gives .room })
+toldOf = map (λ m. record { number = m .gives .answer .number; faults = m .gives .answer .faults; room = m .gives .room })

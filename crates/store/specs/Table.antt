@@ -3,32 +3,34 @@ use mathlib.Core.Path.{_≡_}
 use mathlib.Core.Bool.{true}
 use mathlib.Core.List.{List}
 use Prim.Native.Nat.{ℕ, _+_, _≤_, _<_}
-use Rattle.rules.specs.Table.{top, lowP}
+use Rattle.rules.specs.Table.{lowP}
+use Rattle.model.specs.Shape.{Shape}
 use Rattle.model.specs.Layout.{last, follow, fair, encode, decode}
 use Rattle.model.specs.Meaning.{nextCard, bucketWord, bucketCells}
-use Rattle.store.specs.Cells.{Read}
+use Rattle.store.specs.Cells.{shapeIn, Read}
 use Rattle.store.specs.Search.{Ends}
+use Rattle.store.specs.declared.cells.Header.{Header}
 
 -- one bucket more: there is room for it, and the chain of bucket p comes to its end
-pub record MaySplit (w : List ℕ) (c f m p : ℕ) : Type 0 where
-  pub read : Read w c f m p
-  pub some : 1 ≤ m
-  pub room : m + p < top
-  pub chain : Ends c (nextCard w) (bucketWord w p)
+pub record MaySplit (w : List ℕ) (h : Header) : Type 0 where
+  pub read : Read w h
+  pub some : 1 ≤ h .maxp
+  pub room : h .maxp + h .p < h .top
+  pub chain : Ends (h .cards) (nextCard (shapeIn h) w) (bucketWord (shapeIn h) w (h .p))
 
 -- one bucket less: there are two at least, and the chain that the last one goes behind comes to its end
-pub record MayJoin (w : List ℕ) (c f m p : ℕ) : Type 0 where
-  pub read : Read w c f m p
-  pub some : 2 ≤ m
-  pub room : m + p ≤ top
-  pub chain : Ends c (nextCard w) (bucketWord w (lowP m p))
+pub record MayJoin (w : List ℕ) (h : Header) : Type 0 where
+  pub read : Read w h
+  pub some : 2 ≤ h .maxp
+  pub room : h .maxp + h .p ≤ h .top
+  pub chain : Ends (h .cards) (nextCard (shapeIn h) w) (bucketWord (shapeIn h) w (lowP (h .maxp) (h .p)))
 
--- the last cell of the chain from cell h on, of at most c cells, and of bucket b's chain; 0 for none
-unfoldable pub lastFrom : ℕ → List ℕ → ℕ → ℕ
-lastFrom c w h = last (follow c (nextCard w) h)
+-- the last cell of the chain from cell h on, and of bucket b's chain; 0 for none
+unfoldable pub lastFrom : Shape → List ℕ → ℕ → ℕ
+lastFrom sh w h = last (follow (sh .limit) (nextCard sh w) h)
 
-unfoldable pub lastOf : List ℕ → ℕ → ℕ
-lastOf w b = last (bucketCells w b)
+unfoldable pub lastOf : Shape → List ℕ → ℕ → ℕ
+lastOf sh w b = last (bucketCells sh w b)
 
 -- the words of a store that is sound but for its load, which an entry or a withdrawal may just have broken
 pub record Fairly (w : List ℕ) : Type 0 where

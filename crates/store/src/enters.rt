@@ -19,14 +19,14 @@ pub fn make_enter(w: &mut [u32], serial: [u8; 16], len: usize, t: Plan)
     ensures { λ _. ⌜ now (w .exit) ≡ encode (enterStep (decode (now (w .entry))) serial len .store) ⌝ }
 {
     let h = search::header_of(w);
-    writes::place(w, h.cards, h.faults, t.bucket, t.prev, serial, len);
+    writes::place(w, h, t.bucket, t.prev, serial, len);
     table::grow(w);
 }
 
 // Enter on a store known to be sound.
 pub fn enter_in(w: &mut [u32], serial: [u8; 16], len: usize) -> Answer
     requires { ⌜ sound (now w) ≡ true ⌝ }
-    ensures { λ r. ⌜ Does (enterStep (decode (now (w .entry))) serial len) (r .number) (r .comparisons) (r .scanned) (r .faults) (now (w .exit)) [] ⌝ }
+    ensures { λ r. ⌜ Does (enterStep (decode (now (w .entry))) serial len) r (now (w .exit)) [] ⌝ }
 {
     let t = plans::plan_enter(w, serial, len);
     if t.number != 0 {

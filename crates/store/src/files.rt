@@ -18,13 +18,13 @@ pub fn make_file(w: &mut [u32], t: Plan, day: u32, code: u32)
     ensures { λ _. ⌜ Follows (fileWith (decode (now (w .entry))) day code) (decode (now (w .entry))) t (now (w .exit)) ⌝ }
 {
     let h = search::header_of(w);
-    writes::file_at(w, h.cards, h.faults, t.cell, day, code);
+    writes::file_at(w, h, t.cell, day, code);
 }
 
 // File on a store known to be sound.
 pub fn file_in(w: &mut [u32], serial: [u8; 16], len: usize, day: u32, code: u32) -> Answer
     requires { ⌜ sound (now w) ≡ true ⌝ }
-    ensures { λ r. ⌜ Does (fileStep (decode (now (w .entry))) serial len day code) (r .number) (r .comparisons) (r .scanned) (r .faults) (now (w .exit)) [] ⌝ }
+    ensures { λ r. ⌜ Does (fileStep (decode (now (w .entry))) serial len day code) r (now (w .exit)) [] ⌝ }
 {
     let t = plans::plan_file(w, serial, len, day, code);
     if t.number != 0 {

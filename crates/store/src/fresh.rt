@@ -5,22 +5,28 @@ ghost use mathlib.Core.List.{_++_};
 ghost use Prim.Native.Nat.{_*_, _<_};
 ghost use lib.ListN.{length, replicate};
 ghost use Rattle.model.specs.Model.{fresh};
-ghost use Rattle.model.specs.Layout.{directoryAt, segmentsAt, header, directory, limitsOk, lengthFor, encode};
+ghost use Rattle.model.specs.Layout.{directoryAt, segmentsAt, cardWidth, cardsAt, faultsAt, header, directory, shapeOk, lengthFor, encode};
+ghost use Rattle.store.specs.Cells.{shapeBy};
 ghost use Rattle.store.specs.Fresh.{behind, leading, cellsTo};
 use crate::front;
+use crate::front::Shape;
 use crate::layout;
 
 // Words 0 to 15 of a fresh store.
-fn fresh_header(c: u32, f: u32) -> [u32; layout::HEADER]
-    requires { ⌜ limitsOk c f ≡ true ⌝ }
-    ensures { λ r. ⌜ r ≡ header (fresh c f) ⌝ }
+fn fresh_header(s: Shape) -> [u32; layout::HEADER]
+    requires { ⌜ shapeOk (shapeBy s) ≡ true ⌝ }
+    ensures { λ r. ⌜ r ≡ header (fresh (shapeBy s)) ⌝ }
 {
-    let at = front::faults_at(c);
-    let end = front::length_for(c, f);
+    let segments = front::segments_at(s);
+    let base = front::cards_at(s);
+    let behind = front::faults_at(s);
+    let end = front::length_for(s);
+    let bounds = front::bounds_word(s);
+    let rule = front::rule_word(s);
     [
-        layout::FORMAT,
-        c,
-        f,
+        s.format,
+        s.cards,
+        s.faults,
         layout::LEAST,
         0,
         0,
@@ -28,12 +34,12 @@ fn fresh_header(c: u32, f: u32) -> [u32; layout::HEADER]
         1,
         1,
         layout::DIRECTORY as u32,
-        layout::SEGMENTS as u32,
-        layout::CARDS as u32,
-        at as u32,
+        segments as u32,
+        base as u32,
+        behind as u32,
         end as u32,
-        0,
-        0,
+        bounds,
+        rule,
     ]
 }
 
@@ -92,23 +98,44 @@ fn fill_cells(part: &mut [u32], width: usize, n: u32)
 }
 
 // Header and directory: the first segment is in use, and no other.
-fn fill_head(part: &mut [u32], c: u32, f: u32)
-    requires { ⌜ (limitsOk c f ≡ true) × (length (now part) ≡ segmentsAt) ⌝ }
-    ensures { λ _. ⌜ now (part .exit) ≡ header (fresh c f) ++ directory (fresh c f) ⌝ }
+fn fill_head(part: &mut [u32], s: Shape)
+    requires { ⌜ (shapeOk (shapeBy s) ≡ true) × (length (now part) ≡ segmentsAt (shapeBy s)) ⌝ }
+    ensures { λ _. ⌜ now (part .exit) ≡ header (fresh (shapeBy s)) ++ directory (fresh (shapeBy s)) ⌝ }
 {
-    let row = fresh_header(c, f);
+    let row = fresh_header(s);
+    let segments = front::segments_at(s) as u32;
     put_row(&mut part[0..layout::DIRECTORY], row);
-    put_first(&mut part[layout::DIRECTORY..], layout::SEGMENTS as u32);
+    put_first(&mut part[layout::DIRECTORY..], segments);
 }
 
-// All words of a fresh store. Its parts are lent on one after the other, from the offsets of the layout.
-pub fn fill(words: &mut [u32], c: u32, f: u32)
-    requires { ⌜ (limitsOk c f ≡ true) × (length (now words) ≡ lengthFor c f) ⌝ }
-    ensures { λ _. ⌜ now (words .exit) ≡ encode (fresh c f) ⌝ }
+// The parts of a fresh store, lent on one after the other from where they begin.
+fn fill_parts(
+    words: &mut [u32],
+    s: Shape,
+    segments: usize,
+    base: usize,
+    behind: usize,
+    width: usize,
+)
+    requires { ⌜ (shapeOk (shapeBy s) ≡ true) × (length (now words) ≡ lengthFor (shapeBy s)) × (segments ≡ segmentsAt (shapeBy s)) × (base ≡ cardsAt (shapeBy s)) × (behind ≡ faultsAt (shapeBy s)) × (width ≡ cardWidth (shapeBy s)) ⌝ }
+    ensures { λ _. ⌜ now (words .exit) ≡ encode (fresh (shapeBy s)) ⌝ }
 {
-    let at = front::faults_at(c);
-    fill_head(&mut words[0..layout::SEGMENTS], c, f);
-    clear(&mut words[layout::SEGMENTS..layout::CARDS]);
-    fill_cells(&mut words[layout::CARDS..at], layout::CARD, c);
-    fill_cells(&mut words[at..], layout::FAULT, f);
+    let cards = s.cards;
+    let faults = s.faults;
+    fill_head(&mut words[0..segments], s);
+    clear(&mut words[segments..base]);
+    fill_cells(&mut words[base..behind], width, cards);
+    fill_cells(&mut words[behind..], layout::FAULT, faults);
+}
+
+// All words of a fresh store.
+pub fn fill(words: &mut [u32], s: Shape)
+    requires { ⌜ (shapeOk (shapeBy s) ≡ true) × (length (now words) ≡ lengthFor (shapeBy s)) ⌝ }
+    ensures { λ _. ⌜ now (words .exit) ≡ encode (fresh (shapeBy s)) ⌝ }
+{
+    let segments = front::segments_at(s);
+    let base = front::cards_at(s);
+    let behind = front::faults_at(s);
+    let width = front::card_width(s);
+    fill_parts(words, s, segments, base, behind, width);
 }

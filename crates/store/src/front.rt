@@ -2,15 +2,65 @@
 ghost use mathlib.Core.Path.{_≡_};
 ghost use mathlib.Core.Bool.{true};
 ghost use Prim.Native.Nat.{_+_, _≤_, _<_};
-ghost use lib.ListN.{length, getD};
-ghost use Rattle.rules.specs.Table.{top};
-ghost use Rattle.model.specs.Layout.{limitAt, faultLimitAt, segmentsAt, limitsOk, lengthFor, faultsAt};
-ghost use Rattle.store.specs.Cells.{Read};
+ghost use lib.ListN.{length};
+ghost use Rattle.model.specs.Shape.{topOf};
+ghost use Rattle.model.specs.Layout.{directoryAt, segmentsAt, cardWidth, cardsAt, faultsAt, lengthFor, limitsOk, formatOk, boundsWord, ruleWord, shapeOk, shapeOf};
+ghost use Rattle.model.specs.Calls.{shapeFor};
+ghost use Rattle.store.specs.Cells.{shapeBy, shapeIn, asked, Sized, Read};
 ghost use Rattle.store.specs.Checker.{limitsFit, endsFit, offsetsFit, loadFits, entryFor, directoryFits, restFits, tableFits, frontFits};
 use crate::cells;
 use crate::cells::Header;
 use crate::layout;
 use crate::serial;
+
+// What a store keeps for life: format, limits and load bounds. The functions of it alone know the formats.
+pub struct Shape {
+    pub format: u32,
+    pub cards: u32,
+    pub faults: u32,
+    pub upper: u32,
+    pub lower: u32,
+}
+
+// The shape that Open makes.
+pub fn shape_for(cards: u32, faults: u32) -> Shape
+    ensures { λ r. ⌜ shapeBy r ≡ shapeFor (asked cards faults) ⌝ }
+{
+    Shape {
+        format: layout::FORMAT,
+        cards,
+        faults,
+        upper: layout::UPPER,
+        lower: layout::LOWER,
+    }
+}
+
+// The shape that words tell.
+fn shape_of(w: &[u32]) -> Shape
+    requires { ⌜ directoryAt ≤ length (now w) ⌝ }
+    ensures { λ r. ⌜ shapeBy r ≡ shapeOf (now (w .entry)) ⌝ }
+{
+    Shape {
+        format: cells::word(w, layout::FORMAT_AT),
+        cards: cells::word(w, layout::LIMIT),
+        faults: cells::word(w, layout::FAULT_LIMIT),
+        upper: layout::UPPER,
+        lower: layout::LOWER,
+    }
+}
+
+// Format 1 has the bounds 4 and 2.
+fn format_ok(s: Shape) -> bool
+    ensures { λ r. ⌜ r ≡ formatOk (shapeBy s) ⌝ }
+{
+    if s.format != layout::FORMAT {
+        return false;
+    }
+    if s.upper != layout::UPPER {
+        return false;
+    }
+    s.lower == layout::LOWER
+}
 
 // C is 1 to 1,024 and F is 1 to 2,048.
 pub fn limits_ok(c: u32, f: u32) -> bool
@@ -22,118 +72,178 @@ pub fn limits_ok(c: u32, f: u32) -> bool
     serial::within(1, layout::MOST_FAULTS, f)
 }
 
-// Where the fault cells begin, and the whole length.
-pub fn faults_at(c: u32) -> usize
-    ensures { λ r. ⌜ r ≡ faultsAt c ⌝ }
+// The shapes that there are.
+fn shape_ok(s: Shape) -> bool
+    ensures { λ r. ⌜ r ≡ shapeOk (shapeBy s) ⌝ }
 {
-    layout::CARDS + layout::CARD * (c as usize)
+    if !format_ok(s) {
+        return false;
+    }
+    limits_ok(s.cards, s.faults)
 }
 
-pub fn length_for(c: u32, f: u32) -> usize
-    ensures { λ r. ⌜ r ≡ lengthFor c f ⌝ }
+// The most buckets, and the words of a card cell.
+pub fn top_of(s: Shape) -> u32
+    ensures { λ r. ⌜ r ≡ topOf (shapeBy s) ⌝ }
 {
-    layout::CARDS + layout::CARD * (c as usize) + layout::FAULT * (f as usize)
+    layout::TOP
 }
 
-// Words 0 to 2 and the length.
+pub fn card_width(s: Shape) -> usize
+    ensures { λ r. ⌜ r ≡ cardWidth (shapeBy s) ⌝ }
+{
+    layout::CARD
+}
+
+// Where the segments, the card cells and the fault cells begin, and the whole length.
+pub fn segments_at(s: Shape) -> usize
+    ensures { λ r. ⌜ r ≡ segmentsAt (shapeBy s) ⌝ }
+{
+    layout::SEGMENTS
+}
+
+pub fn cards_at(s: Shape) -> usize
+    ensures { λ r. ⌜ r ≡ cardsAt (shapeBy s) ⌝ }
+{
+    layout::CARDS
+}
+
+pub fn faults_at(s: Shape) -> usize
+    ensures { λ r. ⌜ r ≡ faultsAt (shapeBy s) ⌝ }
+{
+    let base = cards_at(s);
+    let width = card_width(s);
+    base + width * (s.cards as usize)
+}
+
+pub fn length_for(s: Shape) -> usize
+    ensures { λ r. ⌜ r ≡ lengthFor (shapeBy s) ⌝ }
+{
+    let behind = faults_at(s);
+    behind + layout::FAULT * (s.faults as usize)
+}
+
+// Words 14 and 15.
+pub fn bounds_word(s: Shape) -> u32
+    ensures { λ r. ⌜ r ≡ boundsWord (shapeBy s) ⌝ }
+{
+    0
+}
+
+pub fn rule_word(s: Shape) -> u32
+    ensures { λ r. ⌜ r ≡ ruleWord (shapeBy s) ⌝ }
+{
+    0
+}
+
+// The shape and the length.
 fn limits_fit(w: &[u32]) -> bool
     ensures { λ r. ⌜ r ≡ limitsFit (now (w .entry)) ⌝ }
 {
     let n = w.len();
-    if n < layout::CARDS {
+    if n < layout::HEADER {
         return false;
     }
-    if cells::word(w, layout::FORMAT_AT) != layout::FORMAT {
+    let s = shape_of(w);
+    if !shape_ok(s) {
         return false;
     }
-    let c = cells::word(w, layout::LIMIT);
-    let f = cells::word(w, layout::FAULT_LIMIT);
-    if !limits_ok(c, f) {
-        return false;
-    }
-    n == length_for(c, f)
+    n == length_for(s)
 }
 
-// The header, once words 0 to 2 and the length are right.
-pub fn header(w: &[u32]) -> Header
-    requires { ⌜ limitsFit (now w) ≡ true ⌝ }
-    ensures { λ r. ⌜ Read (now (w .entry)) (r .cards) (r .faults) (r .maxp) (r .p) ⌝ }
+// Words 12 to 15.
+fn ends_fit(w: &[u32], s: Shape) -> bool
+    requires { ⌜ directoryAt ≤ length (now w) ⌝ }
+    ensures { λ r. ⌜ r ≡ endsFit (shapeBy s) (now (w .entry)) ⌝ }
 {
+    if cells::wide_word(w, layout::FAULTS_OFFSET) != faults_at(s) {
+        return false;
+    }
+    if cells::wide_word(w, layout::WHOLE_LENGTH) != length_for(s) {
+        return false;
+    }
+    if cells::word(w, layout::BOUNDS) != bounds_word(s) {
+        return false;
+    }
+    cells::word(w, layout::RULE) == rule_word(s)
+}
+
+// Words 9 to 15.
+fn offsets_fit(w: &[u32]) -> bool
+    requires { ⌜ directoryAt ≤ length (now w) ⌝ }
+    ensures { λ r. ⌜ r ≡ offsetsFit (now (w .entry)) ⌝ }
+{
+    let s = shape_of(w);
+    if cells::wide_word(w, layout::DIRECTORY_OFFSET) != layout::DIRECTORY {
+        return false;
+    }
+    if cells::wide_word(w, layout::SEGMENTS_OFFSET) != segments_at(s) {
+        return false;
+    }
+    if cells::wide_word(w, layout::CARDS_OFFSET) != cards_at(s) {
+        return false;
+    }
+    ends_fit(w, s)
+}
+
+// The header, once the shape, the length and the offsets are right: the parts begin where its own words say.
+pub fn header(w: &[u32]) -> Header
+    requires { ⌜ (limitsFit (now w) ≡ true) × (offsetsFit (now w) ≡ true) ⌝ }
+    ensures { λ r. ⌜ Read (now (w .entry)) r ⌝ }
+{
+    let s = shape_of(w);
     Header {
-        cards: cells::word(w, layout::LIMIT),
-        faults: cells::word(w, layout::FAULT_LIMIT),
+        format: s.format,
+        cards: s.cards,
+        faults: s.faults,
+        upper: s.upper,
+        lower: s.lower,
+        top: top_of(s),
+        segments: cells::wide_word(w, layout::SEGMENTS_OFFSET),
+        base: cells::wide_word(w, layout::CARDS_OFFSET),
+        width: card_width(s),
+        behind: cells::wide_word(w, layout::FAULTS_OFFSET),
         maxp: cells::word(w, layout::MAXP),
         p: cells::word(w, layout::P),
     }
 }
 
-// Words 12 to 15.
-fn ends_fit(w: &[u32], c: u32, f: u32) -> bool
-    requires { ⌜ (segmentsAt + top ≤ length (now w)) × (getD (now w) limitAt 0 ≡ c) × (getD (now w) faultLimitAt 0 ≡ f) ⌝ }
-    ensures { λ r. ⌜ r ≡ endsFit (now (w .entry)) ⌝ }
+// At most `upper` cards a bucket, unless there are as many buckets as there can be, and at least `lower` where there are more than 16 buckets.
+fn load_fits(h: Header, n: u32, b: u32) -> bool
+    requires { ⌜ h .top ≡ topOf (shapeIn h) ⌝ }
+    ensures { λ r. ⌜ r ≡ loadFits (shapeIn h) n b ⌝ }
 {
-    if cells::wide_word(w, layout::FAULTS_OFFSET) != faults_at(c) {
-        return false;
-    }
-    if cells::wide_word(w, layout::WHOLE_LENGTH) != length_for(c, f) {
-        return false;
-    }
-    if cells::word(w, layout::FIRST_ZERO) != 0 {
-        return false;
-    }
-    cells::word(w, layout::LAST_ZERO) == 0
-}
-
-// Words 9 to 15.
-fn offsets_fit(w: &[u32], c: u32, f: u32) -> bool
-    requires { ⌜ (segmentsAt + top ≤ length (now w)) × (getD (now w) limitAt 0 ≡ c) × (getD (now w) faultLimitAt 0 ≡ f) ⌝ }
-    ensures { λ r. ⌜ r ≡ offsetsFit (now (w .entry)) ⌝ }
-{
-    if cells::wide_word(w, layout::DIRECTORY_OFFSET) != layout::DIRECTORY {
-        return false;
-    }
-    if cells::wide_word(w, layout::SEGMENTS_OFFSET) != layout::SEGMENTS {
-        return false;
-    }
-    if cells::wide_word(w, layout::CARDS_OFFSET) != layout::CARDS {
-        return false;
-    }
-    ends_fit(w, c, f)
-}
-
-// At most 4 cards a bucket, and at least 2 where there are more than 16 buckets.
-fn load_fits(n: u32, b: u32) -> bool
-    ensures { λ r. ⌜ r ≡ loadFits n b ⌝ }
-{
-    if rules::must_split(n, b) {
+    if rules::must_split(h.top, h.upper, n, b) {
         return false;
     }
     if b == layout::LEAST {
         return true;
     }
-    rules::LOWER * (b as u64) <= n as u64
+    (h.lower as u64) * (b as u64) <= n as u64
 }
 
-// The directory word of segment k with b buckets.
-pub fn entry_for(b: u32, k: u32) -> u32
-    requires { ⌜ k < 65536 ⌝ }
-    ensures { λ r. ⌜ r ≡ entryFor b k ⌝ }
+// The directory word of segment k with b buckets, where the segments begin at `segments`.
+fn entry_for(segments: u32, b: u32, k: u32) -> u32
+    requires { ⌜ (k < 65536) × (segments < 65536) ⌝ }
+    ensures { λ r. ⌜ r ≡ entryFor segments b k ⌝ }
 {
     if layout::SEGMENT * k < b {
-        layout::SEGMENTS as u32 + layout::SEGMENT * k
+        segments + layout::SEGMENT * k
     } else {
         0
     }
 }
 
-// Words 16 to 31: each segment is in use where its first bucket is one of the b.
-fn directory_fits(w: &[u32], b: u32) -> bool
-    requires { ⌜ segmentsAt + top ≤ length (now w) ⌝ }
-    ensures { λ r. ⌜ r ≡ directoryFits (now (w .entry)) b ⌝ }
+// The directory: each segment is in use where its first bucket is one of the b.
+fn directory_fits(w: &[u32], h: Header, b: u32) -> bool
+    requires { ⌜ Sized (now w) h ⌝ }
+    ensures { λ r. ⌜ r ≡ directoryFits (shapeIn h) (now (w .entry)) b ⌝ }
 {
+    let n = h.top / layout::SEGMENT;
+    let segments = h.segments as u32;
     let mut k: u32 = 0;
-    while k < layout::SEGMENT_COUNT {
-        if cells::word(w, layout::DIRECTORY + k as usize) != entry_for(b, k) {
+    while k < n {
+        if cells::word(w, layout::DIRECTORY + k as usize) != entry_for(segments, b, k) {
             return false;
         }
         k += 1;
@@ -142,13 +252,15 @@ fn directory_fits(w: &[u32], b: u32) -> bool
 }
 
 // The words of buckets from b on are zero.
-fn rest_fits(w: &[u32], b: u32) -> bool
-    requires { ⌜ (segmentsAt + top ≤ length (now w)) × (b ≤ top) ⌝ }
-    ensures { λ r. ⌜ r ≡ restFits (now (w .entry)) b ⌝ }
+fn rest_fits(w: &[u32], h: Header, b: u32) -> bool
+    requires { ⌜ Sized (now w) h × (b ≤ h .top) ⌝ }
+    ensures { λ r. ⌜ r ≡ restFits (shapeIn h) (now (w .entry)) b ⌝ }
 {
+    let top = h.top;
+    let segments = h.segments;
     let mut j = b;
-    while j < layout::TOP {
-        if cells::word(w, layout::SEGMENTS + j as usize) != 0 {
+    while j < top {
+        if cells::word(w, segments + j as usize) != 0 {
             return false;
         }
         j += 1;
@@ -157,17 +269,17 @@ fn rest_fits(w: &[u32], b: u32) -> bool
 }
 
 // The table's words: the load, the directory, and the bucket words past the last bucket.
-fn table_fits(w: &[u32], b: u32) -> bool
-    requires { ⌜ (segmentsAt + top ≤ length (now w)) × (b ≤ top) ⌝ }
-    ensures { λ r. ⌜ r ≡ tableFits (now (w .entry)) b ⌝ }
+fn table_fits(w: &[u32], h: Header, b: u32) -> bool
+    requires { ⌜ Sized (now w) h × (b ≤ h .top) ⌝ }
+    ensures { λ r. ⌜ r ≡ tableFits (shapeIn h) (now (w .entry)) b ⌝ }
 {
-    if !load_fits(cells::word(w, layout::HELD), b) {
+    if !load_fits(h, cells::word(w, layout::HELD), b) {
         return false;
     }
-    if !directory_fits(w, b) {
+    if !directory_fits(w, h, b) {
         return false;
     }
-    rest_fits(w, b)
+    rest_fits(w, h, b)
 }
 
 // All words before the cells but the chains' first cells.
@@ -177,16 +289,14 @@ pub fn front_fits(w: &[u32]) -> bool
     if !limits_fit(w) {
         return false;
     }
+    if !offsets_fit(w) {
+        return false;
+    }
     let h = header(w);
-    let c = h.cards;
-    let f = h.faults;
     let maxp = h.maxp;
     let p = h.p;
-    if !rules::state_ok(maxp, p) {
+    if !rules::state_ok(h.top, maxp, p) {
         return false;
     }
-    if !offsets_fit(w, c, f) {
-        return false;
-    }
-    table_fits(w, maxp + p)
+    table_fits(w, h, maxp + p)
 }

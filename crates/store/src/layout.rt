@@ -5,14 +5,19 @@ pub const MOST_CARDS: u32 = 1024;
 
 pub const MOST_FAULTS: u32 = 2048;
 
-// Words 0 to 2 of the header: format 1, C, F.
+// Words 0 to 2 of the header: format, C, F.
 pub const FORMAT_AT: usize = 0;
 
 pub const LIMIT: usize = 1;
 
 pub const FAULT_LIMIT: usize = 2;
 
+// The one format, and its load bounds: above UPPER cards a bucket the table grows, below LOWER it contracts.
 pub const FORMAT: u32 = 1;
+
+pub const UPPER: u32 = 4;
+
+pub const LOWER: u32 = 2;
 
 // Words 3 to 6: maxp, p, cards held, faults held.
 pub const MAXP: usize = 3;
@@ -39,24 +44,22 @@ pub const FAULTS_OFFSET: usize = 12;
 
 pub const WHOLE_LENGTH: usize = 13;
 
-// Words 14 and 15: 0.
-pub const FIRST_ZERO: usize = 14;
+// Words 14 and 15: 0, kept for the load bounds and the spelling of serials.
+pub const BOUNDS: usize = 14;
 
-pub const LAST_ZERO: usize = 15;
+pub const RULE: usize = 15;
 
-// The buckets of a segment, and how many segments the most buckets take.
+// The buckets of a segment.
 pub const SEGMENT: u32 = 16;
 
-pub const SEGMENT_COUNT: u32 = TOP / SEGMENT;
-
-// Where the directory, the segments and the card cells begin.
+// Where the directory, the segments and the card cells begin. Code behind the checker takes the last two from the header.
 pub const DIRECTORY: usize = 16;
 
 pub const SEGMENTS: usize = 32;
 
 pub const CARDS: usize = SEGMENTS + TOP as usize;
 
-// The fewest buckets and the most; the most, as a bucket, is a free chain.
+// The fewest buckets and the most.
 pub use rules::LEAST;
 pub use rules::TOP;
 

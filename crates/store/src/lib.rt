@@ -5,7 +5,8 @@ ghost use Prim.Native.Nat.{_≤_};
 ghost use lib.ListN.{length};
 ghost use Rattle.model.specs.Layout.{sound};
 ghost use Rattle.model.specs.Calls.{scratchNeed, cleaned, openCall, enterCall, fileCall, showCall, withdrawCall};
-ghost use Rattle.store.specs.Leaves.{Leaves, Opens};
+ghost use Rattle.store.specs.Cells.{asked};
+ghost use Rattle.store.specs.Leaves.{Leaves, Opens, turned};
 
 mod cells;
 pub mod enters;
@@ -38,15 +39,16 @@ pub struct Answer {
 // Sets a fresh store for C cards and F faults, whatever the words held. Gives 1 where C or F is out of range and 2 where the
 // length is wrong, and then every word stays; else 0.
 pub fn open(words: &mut [u32], cards: u32, faults: u32) -> u32
-    ensures { λ r. ⌜ Opens (openCall (now (words .entry)) cards faults) r (now (words .exit)) ⌝ }
+    ensures { λ r. ⌜ Opens (openCall (now (words .entry)) (asked cards faults)) r (now (words .exit)) ⌝ }
 {
     if !front::limits_ok(cards, faults) {
         return 1;
     }
-    if words.len() != front::length_for(cards, faults) {
+    let s = front::shape_for(cards, faults);
+    if words.len() != front::length_for(s) {
         return 2;
     }
-    fresh::fill(words, cards, faults);
+    fresh::fill(words, s);
     0
 }
 
@@ -64,7 +66,7 @@ pub fn check(words: &[u32], scratch: &mut [u8]) -> bool
 
 // The answer of a call that is refused before it looks at the serial.
 fn turned_away(number: u32) -> Answer
-    ensures { λ r. ⌜ (r .number ≡ number) × (r .comparisons ≡ 0) × (r .scanned ≡ 0) × (r .faults ≡ 0) ⌝ }
+    ensures { λ r. ⌜ r ≡ turned number ⌝ }
 {
     Answer {
         number,
@@ -76,7 +78,7 @@ fn turned_away(number: u32) -> Answer
 
 // Enters a card with this serial, at the end of its bucket's chain.
 pub fn enter(words: &mut [u32], scratch: &mut [u8], serial: [u8; 16], len: usize) -> Answer
-    ensures { λ r. ⌜ Leaves (enterCall (now (words .entry)) (now (scratch .entry)) serial len) (r .number) (r .comparisons) (r .scanned) (r .faults) (now (words .exit)) [] (now (scratch .exit)) ⌝ }
+    ensures { λ r. ⌜ Leaves (enterCall (now (words .entry)) (now (scratch .entry)) serial len) r (now (words .exit)) [] (now (scratch .exit)) ⌝ }
 {
     if scratch.len() < marks::NEED {
         return turned_away(11);
@@ -96,7 +98,7 @@ pub fn file(
     day: u32,
     code: u32,
 ) -> Answer
-    ensures { λ r. ⌜ Leaves (fileCall (now (words .entry)) (now (scratch .entry)) serial len day code) (r .number) (r .comparisons) (r .scanned) (r .faults) (now (words .exit)) [] (now (scratch .exit)) ⌝ }
+    ensures { λ r. ⌜ Leaves (fileCall (now (words .entry)) (now (scratch .entry)) serial len day code) r (now (words .exit)) [] (now (scratch .exit)) ⌝ }
 {
     if scratch.len() < marks::NEED {
         return turned_away(11);
@@ -115,7 +117,7 @@ pub fn show(
     len: usize,
     room: &mut [u32],
 ) -> Answer
-    ensures { λ r. ⌜ Leaves (showCall (now (words .entry)) (now (scratch .entry)) serial len (now (room .entry))) (r .number) (r .comparisons) (r .scanned) (r .faults) (now (words .entry)) (now (room .exit)) (now (scratch .exit)) ⌝ }
+    ensures { λ r. ⌜ Leaves (showCall (now (words .entry)) (now (scratch .entry)) serial len (now (room .entry))) r (now (words .entry)) (now (room .exit)) (now (scratch .exit)) ⌝ }
 {
     if scratch.len() < marks::NEED {
         return turned_away(11);
@@ -134,7 +136,7 @@ pub fn withdraw(
     len: usize,
     room: &mut [u32],
 ) -> Answer
-    ensures { λ r. ⌜ Leaves (withdrawCall (now (words .entry)) (now (scratch .entry)) serial len (now (room .entry))) (r .number) (r .comparisons) (r .scanned) (r .faults) (now (words .exit)) (now (room .exit)) (now (scratch .exit)) ⌝ }
+    ensures { λ r. ⌜ Leaves (withdrawCall (now (words .entry)) (now (scratch .entry)) serial len (now (room .entry))) r (now (words .exit)) (now (room .exit)) (now (scratch .exit)) ⌝ }
 {
     if scratch.len() < marks::NEED {
         return turned_away(11);

@@ -3,10 +3,9 @@ ghost use mathlib.Core.Path.{_≡_};
 ghost use mathlib.Core.Bool.{cond};
 ghost use Prim.Native.Nat.{_+_, _≤_};
 ghost use lib.ListN.{length, getD};
-ghost use Rattle.rules.specs.Table.{top};
-ghost use Rattle.model.specs.Layout.{freeAt, freeFaultsAt, segmentsAt};
+ghost use Rattle.model.specs.Layout.{directoryAt, freeAt, freeFaultsAt};
 ghost use Rattle.model.specs.Calls.{scratchNeed};
-ghost use Rattle.store.specs.Cells.{Read};
+ghost use Rattle.store.specs.Cells.{shapeIn, Read};
 ghost use Rattle.store.specs.Checker.{heldWord, partOf, DidPart, DidCheck};
 use crate::cells;
 use crate::cells::Header;
@@ -29,7 +28,7 @@ fn base_of(h: Header, faults: bool) -> usize
 }
 
 fn chain_count(h: Header, faults: bool) -> u32
-    requires { ⌜ h .maxp + h .p ≤ top ⌝ }
+    requires { ⌜ h .maxp + h .p ≤ h .top ⌝ }
     ensures { λ r. ⌜ r ≡ cond faults (h .cards) (h .maxp + h .p) ⌝ }
 {
     if faults { h.cards } else { h.maxp + h.p }
@@ -37,7 +36,7 @@ fn chain_count(h: Header, faults: bool) -> u32
 
 // The first free cell of a part, and the word that says how many of its cells are held.
 fn free_word(w: &[u32], faults: bool) -> u32
-    requires { ⌜ segmentsAt + top ≤ length (now w) ⌝ }
+    requires { ⌜ directoryAt ≤ length (now w) ⌝ }
     ensures { λ r. ⌜ r ≡ getD (now (w .entry)) (cond faults freeFaultsAt freeAt) 0 ⌝ }
 {
     if faults {
@@ -48,7 +47,7 @@ fn free_word(w: &[u32], faults: bool) -> u32
 }
 
 fn held_word(w: &[u32], faults: bool) -> u32
-    requires { ⌜ segmentsAt + top ≤ length (now w) ⌝ }
+    requires { ⌜ directoryAt ≤ length (now w) ⌝ }
     ensures { λ r. ⌜ r ≡ heldWord (now (w .entry)) faults ⌝ }
 {
     if faults {
@@ -60,13 +59,13 @@ fn held_word(w: &[u32], faults: bool) -> u32
 
 // All cells of a part stand in a chain, once, and as many as the header says are held.
 pub fn part_fits(w: &[u32], scratch: &mut [u8], h: Header, faults: bool) -> bool
-    requires { ⌜ Read (now w) (h .cards) (h .faults) (h .maxp) (h .p) × (h .maxp + h .p ≤ top) × (scratchNeed ≤ length (now scratch)) ⌝ }
-    ensures { λ r. ⌜ DidPart (partOf (now (w .entry)) faults (now (scratch .entry))) r (now (scratch .exit)) ⌝ }
+    requires { ⌜ Read (now w) h × (h .maxp + h .p ≤ h .top) × (scratchNeed ≤ length (now scratch)) ⌝ }
+    ensures { λ r. ⌜ DidPart (partOf (shapeIn h) (now (w .entry)) faults (now (scratch .entry))) r (now (scratch .exit)) ⌝ }
 {
     let limit = limit_of(h, faults);
     let base = base_of(h, faults);
     let first = free_word(w, faults);
-    let free = walks::walk(w, scratch, h, faults, layout::TOP, base, limit, first);
+    let free = walks::walk(w, scratch, h, faults, h.top, base, limit, first);
     if !free.ok {
         return false;
     }

@@ -9,7 +9,7 @@ ghost use Rattle.model.specs.Model.{size, bucket};
 ghost use Rattle.model.specs.Layout.{follow, decode, sound};
 ghost use Rattle.model.specs.Meaning.{nextCard};
 ghost use Rattle.model.specs.Calls.{enterStep, fileStep, showStep, withdrawStep};
-ghost use Rattle.store.specs.Cells.{Sized, Read};
+ghost use Rattle.store.specs.Cells.{shapeIn, Sized, Read};
 ghost use Rattle.store.specs.Search.{Ends};
 ghost use Rattle.store.specs.Plans.{growScan, shrinkScan, refusal, ahead, answered, Plans, PlansFor};
 use crate::Answer;
@@ -84,35 +84,35 @@ pub fn buckets(w: &[u32]) -> u32
 }
 
 // How many cards the chain from cell `first` on has.
-fn chain_len(w: &[u32], c: u32, f: u32, first: u32) -> u32
-    requires { ⌜ Sized (now w) c f × Ends c (nextCard (now w)) first ⌝ }
-    ensures { λ r. ⌜ r ≡ length (follow c (nextCard (now (w .entry))) first) ⌝ }
+fn chain_len(w: &[u32], h: Header, first: u32) -> u32
+    requires { ⌜ Sized (now w) h × Ends (h .cards) (nextCard (shapeIn h) (now w)) first ⌝ }
+    ensures { λ r. ⌜ r ≡ length (follow (h .cards) (nextCard (shapeIn h) (now (w .entry))) first) ⌝ }
 {
     let mut i = first;
     let mut n: u32 = 0;
     while i != 0 {
         n += 1;
-        i = cells::card_word(w, c, f, i, layout::NEXT);
+        i = cells::card_word(w, h, i, layout::NEXT);
     }
     n
 }
 
 // How many cards bucket b has.
 fn bucket_len(w: &[u32], h: Header, b: u32) -> u32
-    requires { ⌜ (sound (now w) ≡ true) × Read (now w) (h .cards) (h .faults) (h .maxp) (h .p) × (b < h .maxp + h .p) ⌝ }
+    requires { ⌜ (sound (now w) ≡ true) × Read (now w) h × (b < h .maxp + h .p) ⌝ }
     ensures { λ r. ⌜ r ≡ length (bucket (decode (now (w .entry))) b) ⌝ }
 {
-    let first = cells::word(w, layout::SEGMENTS + b as usize);
-    chain_len(w, h.cards, h.faults, first)
+    let first = cells::word(w, h.segments + b as usize);
+    chain_len(w, h, first)
 }
 
 // What an entry into bucket b will scan: bucket p with the new card, if the store then splits it.
 fn grow_scan(w: &[u32], h: Header, b: u32) -> u32
-    requires { ⌜ (sound (now w) ≡ true) × Read (now w) (h .cards) (h .faults) (h .maxp) (h .p) ⌝ }
+    requires { ⌜ (sound (now w) ≡ true) × Read (now w) h ⌝ }
     ensures { λ r. ⌜ r ≡ growScan (decode (now (w .entry))) b ⌝ }
 {
     let n = cells::word(w, layout::HELD);
-    if !rules::must_split(n + 1, h.maxp + h.p) {
+    if !rules::must_split(h.top, h.upper, n + 1, h.maxp + h.p) {
         return 0;
     }
     let k = bucket_len(w, h, h.p);
@@ -128,12 +128,12 @@ fn less(x: u32) -> u32
 
 // What a withdrawal from bucket b will scan: the last bucket without the card, if the store then joins it to another.
 fn shrink_scan(w: &[u32], h: Header, b: u32) -> u32
-    requires { ⌜ (sound (now w) ≡ true) × Read (now w) (h .cards) (h .faults) (h .maxp) (h .p) ⌝ }
+    requires { ⌜ (sound (now w) ≡ true) × Read (now w) h ⌝ }
     ensures { λ r. ⌜ r ≡ shrinkScan (decode (now (w .entry))) b ⌝ }
 {
     let n = cells::word(w, layout::HELD);
     let size = h.maxp + h.p;
-    if !rules::must_contract(less(n), size) {
+    if !rules::must_contract(h.lower, less(n), size) {
         return 0;
     }
     let k = bucket_len(w, h, size - 1);
@@ -179,20 +179,20 @@ pub fn plan_file(w: &[u32], serial: [u8; 16], len: usize, day: u32, code: u32) -
     if cells::word(w, layout::FAULTS_HELD) == h.faults {
         return refused(9, s.place, 0);
     }
-    let n = cells::card_word(w, h.cards, h.faults, s.cell, layout::COUNT);
+    let n = cells::card_word(w, h, s.cell, layout::COUNT);
     accepted(s, 0, n + 1)
 }
 
 // Show and Withdraw of a valid serial: 7 where no card has it, 10 where its pairs do not fit.
 fn plan_pairs(w: &[u32], h: Header, serial: [u8; 16], len: usize, room: usize) -> Plan
-    requires { ⌜ (sound (now w) ≡ true) × Read (now w) (h .cards) (h .faults) (h .maxp) (h .p) × (validSerial serial len ≡ true) ⌝ }
+    requires { ⌜ (sound (now w) ≡ true) × Read (now w) h × (validSerial serial len ≡ true) ⌝ }
     ensures { λ r. ⌜ PlansFor (showStep (decode (now (w .entry))) serial len) room (decode (now (w .entry))) serial len r ⌝ }
 {
     let s = search::find(w, h, serial, len);
     if !s.held {
         return refused(7, s.place, 0);
     }
-    let n = cells::card_word(w, h.cards, h.faults, s.cell, layout::COUNT);
+    let n = cells::card_word(w, h, s.cell, layout::COUNT);
     if room < 2 * (n as usize) {
         return refused(10, s.place, n);
     }

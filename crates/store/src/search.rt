@@ -6,7 +6,7 @@ ghost use lib.ListN.{take};
 ghost use Rattle.model.specs.Serial.{validSerial};
 ghost use Rattle.model.specs.Layout.{decode, sound};
 ghost use Rattle.model.specs.Meaning.{nextCard};
-ghost use Rattle.store.specs.Cells.{Sized, Read};
+ghost use Rattle.store.specs.Cells.{shapeIn, Sized, Read};
 ghost use Rattle.store.specs.Search.{Ends, hasKey, searched, Finds};
 use crate::cells;
 use crate::cells::Header;
@@ -33,16 +33,16 @@ pub struct Spot {
 }
 
 // Whether card i has a serial of this length and these four words: lengths and all bytes are compared, never codes.
-fn has_key(w: &[u32], c: u32, f: u32, i: u32, len: u32, key: [u32; layout::SERIAL_WORDS]) -> bool
-    requires { ⌜ Sized (now w) c f × (1 ≤ i) × (i ≤ c) ⌝ }
-    ensures { λ r. ⌜ r ≡ hasKey (now (w .entry)) i len key ⌝ }
+fn has_key(w: &[u32], h: Header, i: u32, len: u32, key: [u32; layout::SERIAL_WORDS]) -> bool
+    requires { ⌜ Sized (now w) h × (1 ≤ i) × (i ≤ h .cards) ⌝ }
+    ensures { λ r. ⌜ r ≡ hasKey (shapeIn h) (now (w .entry)) i len key ⌝ }
 {
-    if cells::card_word(w, c, f, i, layout::LENGTH) != len {
+    if cells::card_word(w, h, i, layout::LENGTH) != len {
         return false;
     }
     let mut k: usize = 0;
     while k < layout::SERIAL_WORDS {
-        if cells::card_word(w, c, f, i, k + layout::SERIAL) != key[k] {
+        if cells::card_word(w, h, i, k + layout::SERIAL) != key[k] {
             return false;
         }
         k += 1;
@@ -51,23 +51,16 @@ fn has_key(w: &[u32], c: u32, f: u32, i: u32, len: u32, key: [u32; layout::SERIA
 }
 
 // Goes along the chain from cell `first` until a card has the serial, and counts the cards compared.
-pub fn search(
-    w: &[u32],
-    c: u32,
-    f: u32,
-    first: u32,
-    len: u32,
-    key: [u32; layout::SERIAL_WORDS],
-) -> Found
-    requires { ⌜ Sized (now w) c f × Ends c (nextCard (now w)) first ⌝ }
-    ensures { λ r. ⌜ r ≡ searched c (now (w .entry)) first len key ⌝ }
+pub fn search(w: &[u32], h: Header, first: u32, len: u32, key: [u32; layout::SERIAL_WORDS]) -> Found
+    requires { ⌜ Sized (now w) h × Ends (h .cards) (nextCard (shapeIn h) (now w)) first ⌝ }
+    ensures { λ r. ⌜ r ≡ searched (shapeIn h) (now (w .entry)) first len key ⌝ }
 {
     let mut i = first;
     let mut n: u32 = 0;
     let mut prev: u32 = 0;
     while i != 0 {
         n += 1;
-        if has_key(w, c, f, i, len, key) {
+        if has_key(w, h, i, len, key) {
             return Found {
                 held: true,
                 place: n,
@@ -76,7 +69,7 @@ pub fn search(
             };
         }
         prev = i;
-        i = cells::card_word(w, c, f, i, layout::NEXT);
+        i = cells::card_word(w, h, i, layout::NEXT);
     }
     Found {
         held: false,
@@ -89,21 +82,21 @@ pub fn search(
 // The header of a store known to be sound, read once.
 pub fn header_of(w: &[u32]) -> Header
     requires { ⌜ sound (now w) ≡ true ⌝ }
-    ensures { λ r. ⌜ Read (now (w .entry)) (r .cards) (r .faults) (r .maxp) (r .p) ⌝ }
+    ensures { λ r. ⌜ Read (now (w .entry)) r ⌝ }
 {
     front::header(w)
 }
 
 // Where the card of a serial stands in a sound store: its bucket by the serial's code, and the search of that bucket's chain.
 pub fn find(w: &[u32], h: Header, serial: [u8; 16], len: usize) -> Spot
-    requires { ⌜ (sound (now w) ≡ true) × Read (now w) (h .cards) (h .faults) (h .maxp) (h .p) × (validSerial serial len ≡ true) ⌝ }
+    requires { ⌜ (sound (now w) ≡ true) × Read (now w) h × (validSerial serial len ≡ true) ⌝ }
     ensures { λ r. ⌜ Finds (decode (now (w .entry))) (take len serial) r ⌝ }
 {
     let code = rules::serial_code(serial, len);
     let b = rules::reader_address(code, h.maxp, h.p);
-    let first = cells::word(w, layout::SEGMENTS + b as usize);
+    let first = cells::word(w, h.segments + b as usize);
     let key = serial::pack(serial);
-    let r = search(w, h.cards, h.faults, first, len as u32, key);
+    let r = search(w, h, first, len as u32, key);
     Spot {
         bucket: b,
         held: r.held,

@@ -4,10 +4,10 @@ ghost use Prim.Native.Nat.{_+_, _≤_, _<_};
 ghost use lib.ListN.{length, set};
 ghost use Rattle.rules.specs.Table.{top, highMaxp, highP, lowMaxp, lowP};
 ghost use Rattle.model.specs.Model.{grown, shrunk};
-ghost use Rattle.model.specs.Layout.{maxpAt, pAt, segmentsAt, encode, decode};
+ghost use Rattle.model.specs.Layout.{maxpAt, pAt, directoryAt, encode, decode};
 ghost use Rattle.model.specs.Meaning.{nextCard, bucketWord};
 ghost use Rattle.model.specs.Words.{openWords, closeWords, movesAt, partWords, splitWords, joinWords};
-ghost use Rattle.store.specs.Cells.{Sized};
+ghost use Rattle.store.specs.Cells.{shapeIn, Sized};
 ghost use Rattle.store.specs.Search.{Ends};
 ghost use Rattle.store.specs.Table.{MaySplit, MayJoin, lastFrom, lastOf, Fairly};
 use crate::cells;
@@ -17,54 +17,60 @@ use crate::layout;
 use crate::writes;
 
 // Whether the card in cell i goes to the new bucket maxp + p.
-fn moves(w: &[u32], c: u32, f: u32, maxp: u32, p: u32, i: u32) -> bool
-    requires { ⌜ Sized (now w) c f × (1 ≤ maxp) × (maxp + p < top) × (1 ≤ i) × (i ≤ c) ⌝ }
-    ensures { λ r. ⌜ r ≡ movesAt (now (w .entry)) maxp p i ⌝ }
+fn moves(w: &[u32], h: Header, i: u32) -> bool
+    requires { ⌜ Sized (now w) h × (1 ≤ h .maxp) × (h .maxp + h .p < top) × (1 ≤ i) × (i ≤ h .cards) ⌝ }
+    ensures { λ r. ⌜ r ≡ movesAt (shapeIn h) (now (w .entry)) (h .maxp) (h .p) i ⌝ }
 {
-    let len = cells::card_word(w, c, f, i, layout::LENGTH) as usize;
-    let bytes = cells::bytes_at(w, c, f, i);
+    let maxp = h.maxp;
+    let p = h.p;
+    let len = cells::card_word(w, h, i, layout::LENGTH) as usize;
+    let bytes = cells::bytes_at(w, h, i);
     let code = rules::serial_code(bytes, len);
     code % (2 * maxp) == maxp + p
 }
 
 // One pass over bucket p's chain: each cell goes behind the last one that stays, k, or the last one that goes, g, so both
 // chains keep their order. A cell's next word is read before anything behind it is written.
-fn part(w: &mut [u32], c: u32, f: u32, maxp: u32, p: u32)
-    requires { ⌜ MaySplit (now w) c f maxp p ⌝ }
-    ensures { λ _. ⌜ now (w .exit) ≡ partWords c maxp p (now (w .entry)) 0 0 (bucketWord (now (w .entry)) p) ⌝ }
+fn part(w: &mut [u32], h: Header)
+    requires { ⌜ MaySplit (now w) h ⌝ }
+    ensures { λ _. ⌜ now (w .exit) ≡ partWords (h .cards) (shapeIn h) (h .maxp) (h .p) (now (w .entry)) 0 0 (bucketWord (shapeIn h) (now (w .entry)) (h .p)) ⌝ }
 {
+    let maxp = h.maxp;
+    let p = h.p;
+    let segments = h.segments;
     let n = maxp + p;
-    let mut x = cells::word(w, layout::SEGMENTS + p as usize);
+    let mut x = cells::word(w, segments + p as usize);
     let mut k: u32 = 0;
     let mut g: u32 = 0;
     while x != 0 {
-        let next = cells::card_word(w, c, f, x, layout::NEXT);
-        if moves(w, c, f, maxp, p, x) {
-            writes::link(w, c, n, g, x);
+        let next = cells::card_word(w, h, x, layout::NEXT);
+        if moves(w, h, x) {
+            writes::link(w, h, n, g, x);
             g = x;
         } else {
-            writes::link(w, c, p, k, x);
+            writes::link(w, h, p, k, x);
             k = x;
         }
         x = next;
     }
-    writes::link(w, c, p, k, 0);
-    writes::link(w, c, n, g, 0);
+    writes::link(w, h, p, k, 0);
+    writes::link(w, h, n, g, 0);
 }
 
 // Bucket n appears, and goes: its segment is taken, and freed, with its first bucket.
-fn open_bucket(w: &mut [u32], n: u32)
-    requires { ⌜ (segmentsAt + top ≤ length (now w)) × (n < top) ⌝ }
-    ensures { λ _. ⌜ now (w .exit) ≡ openWords (now (w .entry)) n ⌝ }
+fn open_bucket(w: &mut [u32], h: Header, n: u32)
+    requires { ⌜ Sized (now w) h × (n < h .top) ⌝ }
+    ensures { λ _. ⌜ now (w .exit) ≡ openWords (shapeIn h) (now (w .entry)) n ⌝ }
 {
+    let segments = h.segments as u32;
     if n % layout::SEGMENT == 0 {
-        w[layout::DIRECTORY + (n / layout::SEGMENT) as usize] = layout::SEGMENTS as u32 + n;
+        w[layout::DIRECTORY + (n / layout::SEGMENT) as usize] = segments + n;
     }
 }
 
-fn close_bucket(w: &mut [u32], n: u32)
-    requires { ⌜ (segmentsAt + top ≤ length (now w)) × (n < top) ⌝ }
-    ensures { λ _. ⌜ now (w .exit) ≡ closeWords (now (w .entry)) n ⌝ }
+fn close_bucket(w: &mut [u32], h: Header, n: u32)
+    requires { ⌜ Sized (now w) h × (n < h .top) ⌝ }
+    ensures { λ _. ⌜ now (w .exit) ≡ closeWords (shapeIn h) (now (w .entry)) n ⌝ }
 {
     if n % layout::SEGMENT == 0 {
         w[layout::DIRECTORY + (n / layout::SEGMENT) as usize] = 0;
@@ -102,7 +108,7 @@ fn low_p(maxp: u32, p: u32) -> u32
 
 // maxp and p, words 3 and 4 of the header.
 fn set_state(w: &mut [u32], maxp: u32, p: u32)
-    requires { ⌜ segmentsAt + top ≤ length (now w) ⌝ }
+    requires { ⌜ directoryAt ≤ length (now w) ⌝ }
     ensures { λ _. ⌜ now (w .exit) ≡ set (set (now (w .entry)) maxpAt maxp) pAt p ⌝ }
 {
     w[layout::MAXP] = maxp;
@@ -111,26 +117,26 @@ fn set_state(w: &mut [u32], maxp: u32, p: u32)
 
 // One bucket more: the chain of bucket p is parted, the new bucket's segment is taken if it is the first there, p grows.
 pub fn split(w: &mut [u32], h: Header)
-    requires { ⌜ MaySplit (now w) (h .cards) (h .faults) (h .maxp) (h .p) ⌝ }
-    ensures { λ _. ⌜ now (w .exit) ≡ splitWords (now (w .entry)) ⌝ }
+    requires { ⌜ MaySplit (now w) h ⌝ }
+    ensures { λ _. ⌜ now (w .exit) ≡ splitWords (shapeIn h) (now (w .entry)) ⌝ }
 {
     let maxp = h.maxp;
     let p = h.p;
-    part(w, h.cards, h.faults, maxp, p);
-    open_bucket(w, maxp + p);
+    part(w, h);
+    open_bucket(w, h, maxp + p);
     set_state(w, high_maxp(maxp, p), high_p(maxp, p));
 }
 
 // The last cell of the chain from cell `first` on, 0 for none.
-fn last_from(w: &[u32], c: u32, f: u32, first: u32) -> u32
-    requires { ⌜ Sized (now w) c f × Ends c (nextCard (now w)) first ⌝ }
-    ensures { λ r. ⌜ r ≡ lastFrom c (now (w .entry)) first ⌝ }
+fn last_from(w: &[u32], h: Header, first: u32) -> u32
+    requires { ⌜ Sized (now w) h × Ends (h .cards) (nextCard (shapeIn h) (now w)) first ⌝ }
+    ensures { λ r. ⌜ r ≡ lastFrom (shapeIn h) (now (w .entry)) first ⌝ }
 {
     let mut i = first;
     let mut last: u32 = 0;
     while i != 0 {
         last = i;
-        i = cells::card_word(w, c, f, i, layout::NEXT);
+        i = cells::card_word(w, h, i, layout::NEXT);
     }
     last
 }
@@ -138,43 +144,42 @@ fn last_from(w: &[u32], c: u32, f: u32, first: u32) -> u32
 // One bucket less: the last bucket's chain goes behind the chain that it was split from, its own word becomes 0, and its
 // segment is freed if it was the first there.
 pub fn join(w: &mut [u32], h: Header)
-    requires { ⌜ MayJoin (now w) (h .cards) (h .faults) (h .maxp) (h .p) ⌝ }
-    ensures { λ _. ⌜ now (w .exit) ≡ joinWords (now (w .entry)) (lastOf (now (w .entry)) (lowP (h .maxp) (h .p))) ⌝ }
+    requires { ⌜ MayJoin (now w) h ⌝ }
+    ensures { λ _. ⌜ now (w .exit) ≡ joinWords (shapeIn h) (now (w .entry)) (lastOf (shapeIn h) (now (w .entry)) (lowP (h .maxp) (h .p))) ⌝ }
 {
-    let c = h.cards;
-    let f = h.faults;
     let maxp = h.maxp;
     let p = h.p;
+    let segments = h.segments;
     let b = low_p(maxp, p);
     let going = maxp + p - 1;
-    let k = last_from(w, c, f, cells::word(w, layout::SEGMENTS + b as usize));
-    let first = cells::word(w, layout::SEGMENTS + going as usize);
-    writes::link(w, c, b, k, first);
-    writes::put_bucket(w, going, 0);
-    close_bucket(w, going);
+    let k = last_from(w, h, cells::word(w, segments + b as usize));
+    let first = cells::word(w, segments + going as usize);
+    writes::link(w, h, b, k, first);
+    writes::put_bucket(w, h, going, 0);
+    close_bucket(w, h, going);
     set_state(w, low_maxp(maxp, p), b);
 }
 
-// After an accepted entry: one bucket more if there are more than 4 cards a bucket.
+// After an accepted entry: one bucket more if there are more than `upper` cards a bucket.
 pub fn grow(w: &mut [u32])
     requires { ⌜ Fairly (now w) ⌝ }
     ensures { λ _. ⌜ now (w .exit) ≡ encode (grown (decode (now (w .entry)))) ⌝ }
 {
     let h = front::header(w);
     let n = cells::word(w, layout::HELD);
-    if rules::must_split(n, h.maxp + h.p) {
+    if rules::must_split(h.top, h.upper, n, h.maxp + h.p) {
         split(w, h);
     }
 }
 
-// After an accepted withdrawal: one bucket less if there are fewer than 2 cards a bucket, and more than 16 buckets.
+// After an accepted withdrawal: one bucket less if there are fewer than `lower` cards a bucket, and more than 16 buckets.
 pub fn shrink(w: &mut [u32])
     requires { ⌜ Fairly (now w) ⌝ }
     ensures { λ _. ⌜ now (w .exit) ≡ encode (shrunk (decode (now (w .entry)))) ⌝ }
 {
     let h = front::header(w);
     let n = cells::word(w, layout::HELD);
-    if rules::must_contract(n, h.maxp + h.p) {
+    if rules::must_contract(h.lower, n, h.maxp + h.p) {
         join(w, h);
     }
 }

@@ -4,7 +4,7 @@ ghost use mathlib.Core.Bool.{cond, _&&_};
 ghost use mathlib.Core.List.{map};
 ghost use Prim.Native.Nat.{_≤_, _<_};
 ghost use Rattle.model.specs.Lists.{from};
-ghost use Rattle.store.specs.Cells.{Sized, cellFits};
+ghost use Rattle.store.specs.Cells.{shapeIn, Sized, cellFits};
 ghost use Rattle.store.specs.Walk.{mayCome, walkOf, walksFrom, Did, DidAll};
 ghost use Rattle.store.specs.Checker.{Asks, nextIn, firstOf, endFits, startOf, reachOf};
 use crate::cells;
@@ -36,8 +36,8 @@ fn may_come(
     limit: u32,
     i: u32,
 ) -> bool
-    requires { ⌜ Asks (now w) (now scratch) (h .cards) (h .faults) (h .maxp) (h .p) faults base limit b × (1 ≤ i) ⌝ }
-    ensures { λ r. ⌜ r ≡ mayCome (cellFits (now (w .entry)) faults b) (now (scratch .entry)) base limit i ⌝ }
+    requires { ⌜ Asks (now w) (now scratch) h faults base limit b × (1 ≤ i) ⌝ }
+    ensures { λ r. ⌜ r ≡ mayCome (cellFits (shapeIn h) (now (w .entry)) faults b) (now (scratch .entry)) base limit i ⌝ }
 {
     if limit < i {
         return false;
@@ -59,11 +59,9 @@ pub fn walk(
     limit: u32,
     first: u32,
 ) -> Walked
-    requires { ⌜ Asks (now w) (now scratch) (h .cards) (h .faults) (h .maxp) (h .p) faults base limit b ⌝ }
-    ensures { λ r. ⌜ Did (walkOf (cellFits (now (w .entry)) faults b) (nextIn (now (w .entry)) faults) base limit (now (scratch .entry)) first) (r .ok) (r .count) (r .last) (now (scratch .exit)) ⌝ }
+    requires { ⌜ Asks (now w) (now scratch) h faults base limit b ⌝ }
+    ensures { λ r. ⌜ Did (walkOf (cellFits (shapeIn h) (now (w .entry)) faults b) (nextIn (shapeIn h) (now (w .entry)) faults) base limit (now (scratch .entry)) first) (r .ok) (r .count) (r .last) (now (scratch .exit)) ⌝ }
 {
-    let c = h.cards;
-    let f = h.faults;
     let mut i = first;
     let mut n: u32 = 0;
     let mut last: u32 = 0;
@@ -78,7 +76,7 @@ pub fn walk(
         marks::mark(scratch, base + (i - 1) as usize);
         n += 1;
         last = i;
-        i = cells::cell_word(w, c, f, faults, i, layout::NEXT);
+        i = cells::cell_word(w, h, faults, i, layout::NEXT);
     }
     Walked {
         ok: true,
@@ -88,14 +86,14 @@ pub fn walk(
 }
 
 // The first cell of chain j: of bucket j, or of the history of card j + 1.
-fn first_of(w: &[u32], c: u32, f: u32, faults: bool, j: u32) -> u32
-    requires { ⌜ Sized (now w) c f × (j < reachOf (now w) faults) ⌝ }
-    ensures { λ r. ⌜ r ≡ firstOf (now (w .entry)) faults j ⌝ }
+fn first_of(w: &[u32], h: Header, faults: bool, j: u32) -> u32
+    requires { ⌜ Sized (now w) h × (j < reachOf (shapeIn h) faults) ⌝ }
+    ensures { λ r. ⌜ r ≡ firstOf (shapeIn h) (now (w .entry)) faults j ⌝ }
 {
     if faults {
-        cells::card_word(w, c, f, j + 1, layout::FIRST)
+        cells::card_word(w, h, j + 1, layout::FIRST)
     } else {
-        cells::word(w, layout::SEGMENTS + j as usize)
+        cells::word(w, h.segments + j as usize)
     }
 }
 
@@ -107,28 +105,28 @@ fn bucket_of(faults: bool, j: u32) -> u32
 }
 
 // The count and the last fault of card j + 1's history are true; a bucket has no such words.
-fn end_fits(w: &[u32], c: u32, f: u32, faults: bool, j: u32, count: u32, last: u32) -> bool
-    requires { ⌜ Sized (now w) c f × (j < reachOf (now w) faults) ⌝ }
-    ensures { λ r. ⌜ r ≡ endFits (now (w .entry)) faults j count last ⌝ }
+fn end_fits(w: &[u32], h: Header, faults: bool, j: u32, count: u32, last: u32) -> bool
+    requires { ⌜ Sized (now w) h × (j < reachOf (shapeIn h) faults) ⌝ }
+    ensures { λ r. ⌜ r ≡ endFits (shapeIn h) (now (w .entry)) faults j count last ⌝ }
 {
     if !faults {
         return true;
     }
-    if count != cells::card_word(w, c, f, j + 1, layout::COUNT) {
+    if count != cells::card_word(w, h, j + 1, layout::COUNT) {
         return false;
     }
-    last == cells::card_word(w, c, f, j + 1, layout::LAST)
+    last == cells::card_word(w, h, j + 1, layout::LAST)
 }
 
 // A walk of chain j came to its end, and that is where the words say.
-fn passes(w: &[u32], c: u32, f: u32, faults: bool, j: u32, t: Walked) -> bool
-    requires { ⌜ Sized (now w) c f × (j < reachOf (now w) faults) ⌝ }
-    ensures { λ r. ⌜ r ≡ (t .ok && endFits (now (w .entry)) faults j (t .count) (t .last)) ⌝ }
+fn passes(w: &[u32], h: Header, faults: bool, j: u32, t: Walked) -> bool
+    requires { ⌜ Sized (now w) h × (j < reachOf (shapeIn h) faults) ⌝ }
+    ensures { λ r. ⌜ r ≡ (t .ok && endFits (shapeIn h) (now (w .entry)) faults j (t .count) (t .last)) ⌝ }
 {
     if !t.ok {
         return false;
     }
-    end_fits(w, c, f, faults, j, t.count, t.last)
+    end_fits(w, h, faults, j, t.count, t.last)
 }
 
 // The walks of chains 0 to n - 1, one after the other over the same marks.
@@ -141,18 +139,16 @@ pub fn chains(
     limit: u32,
     n: u32,
 ) -> Held
-    requires { ⌜ Asks (now w) (now scratch) (h .cards) (h .faults) (h .maxp) (h .p) faults base limit 0 × (n ≤ reachOf (now w) faults) ⌝ }
-    ensures { λ r. ⌜ DidAll (walksFrom (nextIn (now (w .entry)) faults) base limit (map (startOf (now (w .entry)) faults) (from 0 n)) (now (scratch .entry)) 0) (r .ok) (r .total) (now (scratch .exit)) ⌝ }
+    requires { ⌜ Asks (now w) (now scratch) h faults base limit 0 × (n ≤ reachOf (shapeIn h) faults) ⌝ }
+    ensures { λ r. ⌜ DidAll (walksFrom (nextIn (shapeIn h) (now (w .entry)) faults) base limit (map (startOf (shapeIn h) (now (w .entry)) faults) (from 0 n)) (now (scratch .entry)) 0) (r .ok) (r .total) (now (scratch .exit)) ⌝ }
 {
-    let c = h.cards;
-    let f = h.faults;
     let mut j: u32 = 0;
     let mut total: u32 = 0;
     while j < n {
-        let first = first_of(w, c, f, faults, j);
+        let first = first_of(w, h, faults, j);
         let b = bucket_of(faults, j);
         let t = walk(w, scratch, h, faults, b, base, limit, first);
-        if !passes(w, c, f, faults, j, t) {
+        if !passes(w, h, faults, j, t) {
             return Held {
                 ok: false,
                 total: 0,

@@ -20,14 +20,14 @@ pub fn make_withdraw(w: &mut [u32], t: Plan)
     ensures { λ _. ⌜ Follows (withdrawStep (decode (now (w .entry)))) (decode (now (w .entry))) t (now (w .exit)) ⌝ }
 {
     let h = search::header_of(w);
-    writes::remove_at(w, h.cards, h.faults, t.bucket, t.prev, t.cell);
+    writes::remove_at(w, h, t.bucket, t.prev, t.cell);
     table::shrink(w);
 }
 
 // Withdraw on a store known to be sound: the pairs are written while the card is still there.
 pub fn withdraw_in(w: &mut [u32], serial: [u8; 16], len: usize, room: &mut [u32]) -> Answer
     requires { ⌜ sound (now w) ≡ true ⌝ }
-    ensures { λ r. ⌜ Does (withdrawStep (decode (now (w .entry))) serial len (now (room .entry))) (r .number) (r .comparisons) (r .scanned) (r .faults) (now (w .exit)) (now (room .exit)) ⌝ }
+    ensures { λ r. ⌜ Does (withdrawStep (decode (now (w .entry))) serial len (now (room .entry))) r (now (w .exit)) (now (room .exit)) ⌝ }
 {
     let t = plans::plan_withdraw(w, serial, len, room.len());
     if t.number != 0 {

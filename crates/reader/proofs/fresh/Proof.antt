@@ -3,15 +3,17 @@ use mathlib.Core.Path.{_∙_}
 use Prim.Native.Nat.{ℕ}
 use lib.ListN.{length-replicate}
 use borrow.Author.Needs.{needs}
-use Rattle.model.specs.Layout.{cardsAt, faultsAt, lengthFor}
-use Rattle.reader.specs.Depot.{depotCards, depotFaults}
+use Rattle.model.specs.Shape.{entries}
+use Rattle.model.specs.Layout.{cardWidth, cardsAt, faultsAt, lengthFor}
+use Rattle.model.specs.Calls.{shapeFor}
+use Rattle.reader.specs.Depot.{depotShape}
 use Rattle.reader.proofs.Opening.{opens-fresh}
 use Rattle.reader.proofs.fresh.Statement.{statement}
 use Rattle.reader.proofs.fresh.Tie as tie
 
 returns : tie.Need-returns
-unfolding lengthFor faultsAt cardsAt
-returns c = c .before .«open» .ensures .words-are ∙ opens-fresh _ (length-replicate {A = ℕ} (lengthFor depotCards depotFaults) 0)
+unfolding lengthFor faultsAt cardsAt cardWidth entries shapeFor
+returns c = c .before .«open» .ensures .words-are ∙ opens-fresh _ (length-replicate {A = ℕ} (lengthFor depotShape) 0)
 
 pub fresh-spec : {M : Type 1} → statement M
 fresh-spec = tie.close (tie.spec (λ c. search needs) (λ c κs. search needs) returns)

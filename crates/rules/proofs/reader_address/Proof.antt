@@ -2,13 +2,14 @@
 -- Assumes nothing.
 use mathlib.Core.Path.{sym, _∙_}
 use native.Mathlib.Omega.{arith}
+use Rattle.rules.specs.Table.{top}
 use Rattle.rules.proofs.States.{State, state-of, state-ok, size-low, size-top}
 use Rattle.rules.proofs.Addresses.{address-good, address-bad, bucket-moved, bucket-kept}
 use Rattle.rules.proofs.reader_address.Statement.{statement}
 use Rattle.rules.proofs.reader_address.Tie as tie
 
-state : (c : tie.Then1) → State (c .before .before .args .maxp) (c .before .before .args .p)
-state c = state-of _ _ (sym (c .before .state-ok .ensures) ∙ c .if1 .taken)
+state : (c : tie.Then1) → State top (c .before .before .args .maxp) (c .before .before .args .p)
+state c = state-of top _ _ (sym (c .before .state-ok .ensures) ∙ c .if1 .taken)
 
 rem-a : tie.Need-rem-a
 rem-a c = omega (arith, size-low (state c .size))

@@ -1,12 +1,16 @@
 -- `open` meets its contract: the two tests of `openCall` in its order, and the words of a fresh store where both pass.
-use mathlib.Core.Path.{_≡_, refl, sym, _∙_}
+use mathlib.Core.Path.{_≡_, refl, sym, ap, _∙_}
 use mathlib.Core.Bool.{true, false}
 use borrow.Author.Needs.{needs}
 use borrow.Author.Tests.{not-true, not-false, ne-eqb, eq-eqb}
 use lib.Dec.{eqb}
 use lib.ListN.{length}
-use Rattle.model.specs.Layout.{limitsOk, lengthFor}
-use Rattle.model.specs.Calls.{openCall}
+use Rattle.model.specs.Shape.{Shape}
+use Rattle.model.specs.Model.{fresh}
+use Rattle.model.specs.Layout.{limitsOk, lengthFor, shapeOk, encode}
+use Rattle.model.specs.Calls.{shapeFor, openCall}
+use Rattle.model.proofs.Outcomes.{terms-ok}
+use Rattle.store.specs.Cells.{asked}
 use Rattle.store.proofs.open.Statement.{statement}
 use Rattle.store.proofs.open.Tie as tie
 
@@ -23,27 +27,29 @@ limits c = sym (c .before .limits-ok .ensures) ∙ not-false (c .before .limits-
 returns-2 : tie.Need-returns-2
 unfolding openCall
 returns-2 c =
-    let a = c .before .before .before .before .before .args in
-    let e : eqb (length (a .words .now)) (lengthFor (a .cards) (a .faults)) ≡ false = ne-eqb _ _ (λ e. c .if2 .taken (e ∙ sym (c .before .length-for .ensures))) in
-    rw (limits (c .before .before), e) (record { number-is = refl; words-are = refl })
+    let s = c .before .before in
+    let a = s .before .before .before .before .args in
+    let e : eqb (length (a .words .now)) (lengthFor (shapeFor (asked (a .cards) (a .faults)))) ≡ false =
+    ne-eqb _ _ (λ e. c .if2 .taken (e ∙ sym (c .before .length-for .ensures ∙ ap lengthFor (s .shape-for .ensures)))) in
+    rw (limits (s .before), e) (record { number-is = refl; words-are = refl })
 
 -- and past the second the length is
-long : (c : tie.Else2) → length (c .before .before .before .before .before .args .words .now) ≡ lengthFor (c .before .before .before .before .before .args .cards) (c .before .before .before .before .before .args .faults)
-long c = c .if2 .left ∙ c .before .length-for .ensures
+long : (c : tie.Else2) → length (c .before .before .before .before .before .before .args .words .now)
+    ≡ lengthFor (shapeFor (asked (c .before .before .before .before .before .before .args .cards) (c .before .before .before .before .before .before .args .faults)))
+long c = c .if2 .left ∙ c .before .length-for .ensures ∙ ap lengthFor (c .before .before .shape-for .ensures)
+
+fill-requires : tie.Need-fill-requires
+fill-requires c κs =
+    let t = c .before in
+    let s = t .before .before in
+    (ap shapeOk (s .shape-for .ensures) ∙ terms-ok _ (limits (s .before)), long t ∙ sym (ap lengthFor (s .shape-for .ensures)))
 
 returns-3 : tie.Need-returns-3
 unfolding openCall
 returns-3 c =
-    rw (limits (c .before .before .before .before .before .before), eq-eqb _ _ (long (c .before .before .before .before))) (record { number-is = refl; words-are = c .before .before .fill .ensures })
+    let t = c .before .before .before .before in
+    let s = t .before .before in
+    rw (limits (s .before), eq-eqb _ _ (long t)) (record { number-is = refl; words-are = c .before .before .fill .ensures ∙ ap (λ (sh : Shape). encode (fresh sh)) (s .shape-for .ensures) })
 
 pub open-spec : {M : Type 1} → statement M
-open-spec =
-    tie.close
-    (tie.spec
-    (λ c κs. tt)
-    returns
-    (λ c κs. tt)
-    returns-2
-    (λ c κs. (limits (c .before .before .before), long (c .before)))
-    (λ c. search needs)
-    returns-3)
+open-spec = tie.close (tie.spec (λ c κs. tt) returns (λ c κs. tt) (λ c κs. tt) returns-2 fill-requires (λ c. search needs) returns-3)

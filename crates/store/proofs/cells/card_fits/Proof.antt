@@ -7,17 +7,17 @@ use Rattle.rules.specs.Code.{codeOf}
 use Rattle.rules.specs.Table.{addressOf}
 use Rattle.model.specs.Serial.{validSerial}
 use Rattle.model.specs.Layout.{cardWord}
-use Rattle.store.specs.Cells.{bytesAt, cardFits}
+use Rattle.store.specs.Cells.{shapeIn, bytesAt, cardFits}
 use Rattle.store.proofs.Rows.{and-rest, and-fails}
 use Rattle.store.proofs.cells.card_fits.Statement.{statement}
 use Rattle.store.proofs.cells.card_fits.Tie as tie
 
 -- the serial is tested as it stands in the cell
-valid : (c : tie.After-valid-serial) → (c .valid-serial .result ≡ validSerial (bytesAt (c .before .before .before .before .args .w .now) (c .before .before .before .before .args .i)) (cardWord (c .before .before .before .before .args .w .now) (c .before .before .before .before .args .i) 1))
+valid : (c : tie.After-valid-serial) → (c .valid-serial .result ≡ validSerial (bytesAt (shapeIn (c .before .before .before .before .args .h)) (c .before .before .before .before .args .w .now) (c .before .before .before .before .args .i)) (cardWord (shapeIn (c .before .before .before .before .args .h)) (c .before .before .before .before .args .w .now) (c .before .before .before .before .args .i) 1))
 valid c = rw (← (c .before .bytes-at .ensures), ← (c .before .before .card-word .ensures)) (c .valid-serial .ensures)
 
 -- and so is its address
-address : (c : tie.After-reader-address) → (c .reader-address .result ≡ addressOf (codeOf (take (cardWord (c .before .before .before .before .before .before .before .args .w .now) (c .before .before .before .before .before .before .before .args .i) 1) (bytesAt (c .before .before .before .before .before .before .before .args .w .now) (c .before .before .before .before .before .before .before .args .i)))) (getD (c .before .before .before .before .before .before .before .args .w .now) 3 0) (getD (c .before .before .before .before .before .before .before .args .w .now) 4 0))
+address : (c : tie.After-reader-address) → (c .reader-address .result ≡ addressOf (codeOf (take (cardWord (shapeIn (c .before .before .before .before .before .before .before .args .h)) (c .before .before .before .before .before .before .before .args .w .now) (c .before .before .before .before .before .before .before .args .i) 1) (bytesAt (shapeIn (c .before .before .before .before .before .before .before .args .h)) (c .before .before .before .before .before .before .before .args .w .now) (c .before .before .before .before .before .before .before .args .i)))) (getD (c .before .before .before .before .before .before .before .args .w .now) 3 0) (getD (c .before .before .before .before .before .before .before .args .w .now) 4 0))
 address c =
     let r = c .before .before .before .before .before .before .before .pre .0 in
     rw (r .maxp, r .state, ← (c .before .before .before .before .bytes-at .ensures), ← (c .before .before .before .before .before .card-word .ensures), ← (c .before .serial-code .ensures)) (c .reader-address .ensures)
@@ -35,10 +35,10 @@ returns-2 c =
 returns-3 : tie.Need-returns-3
 unfolding cardFits
 returns-3 c =
-    let r = c .before .before .before .before .before .before .before .before .before .before .pre .0 in
-    sym (and-rest _ (sym (valid (c .before .before .before .before .before .before)) ∙ not-false (c .before .before .before .before .before .before .valid-serial .result) (c .before .before .before .before .before .if1 .left))
-    ∙ and-rest _ (eq-eqb _ _ (sym (address (c .before .before .before)) ∙ c .before .before .if2 .left))
-    ∙ rw (r .sized .limit, ← (c .before .word .ensures)) (sym (c .met-first .ensures)))
+    let r = c .before .before .before .before .before .before .before .before .before .before .before .pre .0 in
+    sym (and-rest _ (sym (valid (c .before .before .before .before .before .before .before)) ∙ not-false (c .before .before .before .before .before .before .before .valid-serial .result) (c .before .before .before .before .before .before .if1 .left))
+    ∙ and-rest _ (eq-eqb _ _ (sym (address (c .before .before .before .before)) ∙ c .before .before .before .if2 .left))
+    ∙ rw (← (r .sized .segments), ← (c .before .word .ensures)) (sym (c .met-first .ensures)))
 
 pub card-fits-spec : {M : Type 1} → statement M
 card-fits-spec =

@@ -3,7 +3,7 @@ use Prim.Native.Nat.{_≤_, _<_}
 use native.Mathlib.Omega.{arith}
 use lib.ListN.{getD}
 use Rattle.model.specs.Layout.{cardWidth, faultWidth}
-use Rattle.store.specs.Cells.{cellWord, limitOf, widthOf}
+use Rattle.store.specs.Cells.{shapeIn, cellWord, limitOf, widthOf}
 use Rattle.store.proofs.cells.cell_word.Statement.{statement}
 use Rattle.store.proofs.cells.cell_word.Tie as tie
 
@@ -11,19 +11,17 @@ fault-word-requires : tie.Need-fault-word-requires
 unfolding limitOf widthOf
 fault-word-requires c κs =
     let p = c .before .before .pre in
-    let s = p .0 in
-    let a : c .before .before .args .i ≤ getD (c .before .before .args .w .now) 2 0 = rw (c .if1 .taken) at (p .2) in
+    let a : c .before .before .args .i ≤ c .before .before .args .h .faults = rw (c .if1 .taken) at (p .2) in
     let b : c .before .before .args .k < faultWidth = rw (c .if1 .taken) at (p .3) in
-    (s, p .1, omega arith, b)
+    (p .0, p .1, a, b)
 
 card-word-requires : tie.Need-card-word-requires
 unfolding limitOf widthOf
 card-word-requires c κs =
     let p = c .before .before .pre in
-    let s = p .0 in
-    let a : c .before .before .args .i ≤ getD (c .before .before .args .w .now) 1 0 = rw (c .if1 .left) at (p .2) in
-    let b : c .before .before .args .k < cardWidth = rw (c .if1 .left) at (p .3) in
-    (s, p .1, omega arith, b)
+    let a : c .before .before .args .i ≤ c .before .before .args .h .cards = rw (c .if1 .left) at (p .2) in
+    let b : c .before .before .args .k < cardWidth (shapeIn (c .before .before .args .h)) = rw (c .if1 .left) at (p .3) in
+    (p .0, p .1, a, omega (arith, p .0 .width, b))
 
 returns : tie.Need-returns
 unfolding cellWord

@@ -5,32 +5,32 @@ use native.Mathlib.Omega.{arith}
 use borrow.Author.Tests.{not-true, not-false}
 use Rattle.model.specs.Lists.{between}
 use Rattle.model.proofs.Lists.{between-is}
-use Rattle.store.specs.Cells.{metFirst}
+use Rattle.store.specs.Cells.{shapeIn, metFirst}
 use Rattle.store.proofs.CellLaws.{met-start, met-here, met-out, met-twin, met-on, met-end}
 use Rattle.store.proofs.cells.met_first.Statement.{statement}
 use Rattle.store.proofs.cells.met_first.Tie as tie
 
 abbrev Inv-loop : tie.InvT-loop
-Inv-loop w c f first i j₀ n₀ j n = (n ≤ c) × (metFirst (c - n) w j i ≡ metFirst c w first i)
+Inv-loop w h first i c j₀ n₀ j n = (n ≤ h .cards) × (metFirst (h .cards - n) (shapeIn h) w j i ≡ metFirst (h .cards) (shapeIn h) w first i)
 
 abbrev μ-loop : tie.MeasureT-loop
-μ-loop w c f first i j₀ n₀ j n = c - n
+μ-loop w h first i c j₀ n₀ j n = h .cards - n
 
 loop-holds : tie.Need-loop-holds Inv-loop μ-loop
-loop-holds c = (omega arith, met-start _ _ _ _)
+loop-holds c = (omega arith, met-start _ _ _ _ _)
 
 returns : tie.Need-returns Inv-loop μ-loop
 returns c =
     let a = c .before .before .before .before .args in
     let l = c .before .before .loop in
-    sym (sym (l .inv .1) ∙ met-here (a .w .now) (l .j) (a .i) (a .c) (l .n) (omega arith) (c .if1 .taken))
+    sym (sym (l .inv .1) ∙ met-here (shapeIn (a .h)) (a .w .now) (l .j) (a .i) (a .h .cards) (l .n) (omega arith) (c .if1 .taken))
 
 returns-2 : tie.Need-returns-2 Inv-loop μ-loop
 returns-2 c =
     let a = c .before .before .before .before .before .before .args in
     let l = c .before .before .before .before .loop in
-    let e = ap (λ (m : ℕ). between 1 m (l .j)) (c .before .before .before .before .before .before .pre .0 .limit) ∙ sym (c .before .within .ensures) ∙ not-true (c .before .within .result) (c .if2 .taken) in
-    sym (sym (l .inv .1) ∙ met-out (a .w .now) (l .j) (a .i) (a .c) (l .n) (omega arith) (c .before .before .if1 .left) e)
+    let e = sym (c .before .within .ensures) ∙ not-true (c .before .within .result) (c .if2 .taken) in
+    sym (sym (l .inv .1) ∙ met-out (shapeIn (a .h)) (a .w .now) (l .j) (a .i) (a .h .cards) (l .n) (omega arith) (c .before .before .if1 .left) e)
 
 same-key-requires : tie.Need-same-key-requires Inv-loop μ-loop
 same-key-requires c κs =
@@ -41,8 +41,8 @@ returns-3 : tie.Need-returns-3 Inv-loop μ-loop
 returns-3 c =
     let a = c .before .before .before .before .before .before .before .before .args in
     let l = c .before .before .before .before .before .before .loop in
-    let e = ap (λ (m : ℕ). between 1 m (l .j)) (c .before .before .before .before .before .before .before .before .pre .0 .limit) ∙ sym (c .before .before .before .within .ensures) ∙ not-false (c .before .before .before .within .result) (c .before .before .if2 .left) in
-    sym (sym (l .inv .1) ∙ met-twin (a .w .now) (l .j) (a .i) (a .c) (l .n) (omega arith) (c .before .before .before .before .if1 .left) e (sym (c .before .same-key .ensures) ∙ c .if3 .taken))
+    let e = sym (c .before .before .before .within .ensures) ∙ not-false (c .before .before .before .within .result) (c .before .before .if2 .left) in
+    sym (sym (l .inv .1) ∙ met-twin (shapeIn (a .h)) (a .w .now) (l .j) (a .i) (a .h .cards) (l .n) (omega arith) (c .before .before .before .before .if1 .left) e (sym (c .before .same-key .ensures) ∙ c .if3 .taken))
 
 card-word-requires : tie.Need-card-word-requires Inv-loop μ-loop
 card-word-requires c κs =
@@ -53,17 +53,17 @@ loop-again : tie.Need-loop-again Inv-loop μ-loop
 loop-again c =
     let a = c .before .before .before .before .before .before .before .before .before .args in
     let l = c .before .before .before .before .before .before .before .loop in
-    let e = ap (λ (m : ℕ). between 1 m (l .j)) (c .before .before .before .before .before .before .before .before .before .pre .0 .limit) ∙ sym (c .before .before .before .before .within .ensures) ∙ not-false (c .before .before .before .before .within .result) (c .before .before .before .if2 .left) in (
+    let e = sym (c .before .before .before .before .within .ensures) ∙ not-false (c .before .before .before .before .within .result) (c .before .before .before .if2 .left) in (
       omega arith,
       rw (c .card-word .ensures)
-          (met-on (a .w .now) (l .j) (a .i) (a .c) (l .n) (omega arith) (c .before .before .before .before .before .if1 .left) e (sym (c .before .before .same-key .ensures) ∙ c .before .if3 .left) ∙ l .inv .1),
+          (met-on (shapeIn (a .h)) (a .w .now) (l .j) (a .i) (a .h .cards) (l .n) (omega arith) (c .before .before .before .before .before .if1 .left) e (sym (c .before .before .same-key .ensures) ∙ c .before .if3 .left) ∙ l .inv .1),
     )
 
 returns-4 : tie.Need-returns-4 Inv-loop μ-loop
 returns-4 c =
     let a = c .before .before .before .args in
     let l = c .before .loop in
-    sym (sym (l .inv .1) ∙ met-end (a .w .now) (l .j) (a .i) (a .c) (l .n) (omega arith))
+    sym (sym (l .inv .1) ∙ met-end (shapeIn (a .h)) (a .w .now) (l .j) (a .i) (a .h .cards) (l .n) (omega arith))
 
 pub met-first-spec : {M : Type 1} → statement M
 met-first-spec =

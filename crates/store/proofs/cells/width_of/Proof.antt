@@ -9,7 +9,7 @@ returns c = rw (c .if1 .taken)
 
 returns-2 : tie.Need-returns-2
 unfolding widthOf
-returns-2 c = rw (c .if1 .left)
+returns-2 c = rw (c .if1 .left) (c .before .pre)
 
 pub width-of-spec : {M : Type 1} → statement M
 width-of-spec =

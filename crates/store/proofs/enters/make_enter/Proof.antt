@@ -18,14 +18,14 @@ grow-requires : tie.Need-grow-requires
 grow-requires c κs =
     let k = c .before .before .before in
     let p = start k .pre in
-    rep-fairly (rep-place _ (p .0) _ _ (p .1) (p .2) (k .place .ensures))
+    rep-fairly (rep-place _ (p .0) _ _ (p .1) (p .2) (k .before .before .header-of .ensures) (k .place .ensures))
 
 returns : tie.Need-returns
 returns c =
     let g = c .before .before in
     let k = g .before .before .before .before in
     let p = start k .pre in
-    made-enter _ (p .0) _ _ (p .1) (p .2) (k .place .ensures) (g .grow .ensures)
+    made-enter _ (p .0) _ _ (p .1) (p .2) (k .before .before .header-of .ensures) (k .place .ensures) (g .grow .ensures)
 
 pub make-enter-spec : {M : Type 1} → statement M
 make-enter-spec =

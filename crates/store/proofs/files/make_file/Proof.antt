@@ -13,7 +13,7 @@ file-at-requires c κs =
 returns : tie.Need-returns
 returns c =
     let a = c .before .before .before .before .before .before .before in
-    record { leaves = λ bytes n room q. made-file _ (a .pre .0) bytes n _ _ q (a .pre .1 .done) (c .before .before .file-at .ensures) }
+    record { leaves = λ bytes n room q. made-file _ (a .pre .0) bytes n _ _ q (a .pre .1 .done) (c .before .before .before .before .header-of .ensures) (c .before .before .file-at .ensures) }
 
 pub make-file-spec : {M : Type 1} → statement M
 make-file-spec =

@@ -1,29 +1,24 @@
--- `fresh::fresh_header` meets its contract: the sixteen words are those of a fresh store's header, and its two offsets fit a word.
+-- `fresh::fresh_header` meets its contract: the sixteen words are those of a fresh store's header, and its offsets fit a word.
 use mathlib.Core.Path.{sym, _∙_}
 use mathlib.Core.List.{[], _∷_}
 use native.Mathlib.Omega.{arith}
 use borrow.Author.Needs.{needs}
 use Rattle.rules.specs.Table.{least}
-use Rattle.model.specs.Layout.{format, directoryAt, segmentsAt, cardsAt, faultsAt, lengthFor}
-use Rattle.model.proofs.Fair.{limits-of}
-use Rattle.store.proofs.FreshLaws.{header-fresh}
+use Rattle.model.specs.Layout.{directoryAt}
+use Rattle.store.specs.Cells.{shapeBy}
+use Rattle.store.proofs.FreshLaws.{header-fresh, spans}
 use Rattle.store.proofs.fresh.fresh_header.Statement.{statement}
 use Rattle.store.proofs.fresh.fresh_header.Tie as tie
 
-cast-t8 : tie.Need-cast-t8
-unfolding faultsAt cardsAt
-cast-t8 c = let l = limits-of _ _ (c .before .before .pre) in omega (arith, c .before .faults-at .ensures)
-
-cast-t9 : tie.Need-cast-t9
-unfolding lengthFor faultsAt cardsAt
-cast-t9 c = let l = limits-of _ _ (c .before .before .pre) in omega (arith, c .length-for .ensures)
+abbrev start : tie.After-rule-word → tie.Start
+start c = c .before .before .before .before .before .before
 
 returns : tie.Need-returns
-unfolding cardsAt
 returns c =
-    let a = c .before .before .args in
-    (λ k. format ∷ a .c ∷ a .f ∷ least ∷ 0 ∷ 0 ∷ 0 ∷ 1 ∷ 1 ∷ directoryAt ∷ segmentsAt ∷ cardsAt ∷ c .before .faults-at .ensures k ∷ c .length-for .ensures k ∷ 0 ∷ 0 ∷ [])
-    ∙ sym (header-fresh (a .c) (a .f) (c .before .before .pre))
+    let a = start c .args .s in
+    (λ k. a .format ∷ a .cards ∷ a .faults ∷ least ∷ 0 ∷ 0 ∷ 0 ∷ 1 ∷ 1 ∷ directoryAt ∷ c .before .before .before .before .before .segments-at .ensures k ∷ c .before .before .before .before .cards-at .ensures k
+    ∷ c .before .before .before .faults-at .ensures k ∷ c .before .before .length-for .ensures k ∷ c .before .bounds-word .ensures k ∷ c .rule-word .ensures k ∷ [])
+    ∙ sym (header-fresh (shapeBy a) (start c .pre))
 
 pub fresh-header-spec : {M : Type 1} → statement M
 fresh-header-spec =
@@ -31,9 +26,13 @@ fresh-header-spec =
     (tie.spec
     (λ c κs. tt)
     (λ c κs. tt)
+    (λ c κs. tt)
+    (λ c κs. tt)
+    (λ c κs. tt)
+    (λ c κs. tt)
     (λ c. search needs)
-    (λ c. search needs)
-    (λ c. search needs)
-    cast-t8
-    cast-t9
+    (λ c. let p = spans _ (start c .pre) in omega (arith, c .before .before .before .before .before .segments-at .ensures))
+    (λ c. let p = spans _ (start c .pre) in omega (arith, c .before .before .before .before .cards-at .ensures))
+    (λ c. let p = spans _ (start c .pre) in omega (arith, c .before .before .before .faults-at .ensures))
+    (λ c. let p = spans _ (start c .pre) in omega (arith, c .before .before .length-for .ensures))
     returns)

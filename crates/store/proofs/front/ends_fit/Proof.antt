@@ -1,41 +1,58 @@
 -- `front::ends_fit` meets its contract: words 12 to 15 are tested one after the other.
-use mathlib.Core.Path.{sym, _∙_}
-use borrow.Author.Tests.{eq-eqb, ne-eqb}
+use mathlib.Core.Path.{_≡_, refl, sym, ap, _∙_}
+use mathlib.Core.Bool.{true}
+use native.Mathlib.Omega.{arith}
 use borrow.Author.Needs.{needs}
+use borrow.Author.Tests.{eq-eqb, ne-eqb, not-true, not-false}
 use Rattle.store.proofs.Rows.{and-rest, and-fails}
+use Rattle.store.specs.Checker.{endsFit}
 use Rattle.store.proofs.front.ends_fit.Statement.{statement}
 use Rattle.store.proofs.front.ends_fit.Tie as tie
 
 returns : tie.Need-returns
-returns c =
-    rw (c .before .before .before .before .pre .1, ← (c .before .before .wide-word .ensures), ← (c .before .faults-at .ensures)) (sym (and-fails _ (ne-eqb _ _ (c .if1 .taken))))
+unfolding endsFit
+returns c = sym (and-fails _ (ne-eqb _ _ (λ e. c .if1 .taken (c .before .before .wide-word .ensures ∙ e ∙ sym (c .before .faults-at .ensures)))))
 
 returns-2 : tie.Need-returns-2
+unfolding endsFit
 returns-2 c =
-    rw (c .before .before .before .before .before .before .before .pre .1, c .before .before .before .before .before .before .before .pre .2, ← (c .before .before .before .before .before .wide-word .ensures), ← (c .before .before .before .before .faults-at .ensures), ← (c .before .before .wide-word2 .ensures), ← (c .before .length-for .ensures))
-    (sym (and-rest _ (eq-eqb _ _ (c .before .before .before .if1 .left)) ∙ and-fails _ (ne-eqb _ _ (c .if2 .taken))))
+    let one = c .before .before .before in
+    sym (and-rest _ (eq-eqb _ _ (sym (one .before .before .wide-word .ensures) ∙ one .if1 .left ∙ one .before .faults-at .ensures))
+    ∙ and-fails _ (ne-eqb _ _ (λ e. c .if2 .taken (c .before .before .wide-word2 .ensures ∙ e ∙ sym (c .before .length-for .ensures)))))
 
 returns-3 : tie.Need-returns-3
+unfolding endsFit
 returns-3 c =
-    rw (c .before .before .before .before .before .before .before .before .before .pre .1, c .before .before .before .before .before .before .before .before .before .pre .2, ← (c .before .before .before .before .before .before .before .wide-word .ensures), ← (c .before .before .before .before .before .before .faults-at .ensures), ← (c .before .before .before .before .wide-word2 .ensures), ← (c .before .before .before .length-for .ensures), ← (c .before .word .ensures))
-    (sym (and-rest _ (eq-eqb _ _ (c .before .before .before .before .before .if1 .left)) ∙ and-rest _ (eq-eqb _ _ (c .before .before .if2 .left)) ∙ and-fails _ (ne-eqb _ _ (c .if3 .taken))))
+    let two = c .before .before .before in
+    let one = two .before .before .before in
+    sym (and-rest _ (eq-eqb _ _ (sym (one .before .before .wide-word .ensures) ∙ one .if1 .left ∙ one .before .faults-at .ensures))
+    ∙ and-rest _ (eq-eqb _ _ (sym (two .before .before .wide-word2 .ensures) ∙ two .if2 .left ∙ two .before .length-for .ensures))
+    ∙ and-fails _ (ne-eqb _ _ (λ e. c .if3 .taken (c .before .before .word .ensures ∙ e ∙ sym (c .before .bounds-word .ensures)))))
 
 returns-4 : tie.Need-returns-4
+unfolding endsFit
 returns-4 c =
-    rw (c .before .before .before .before .before .before .before .before .before .before .pre .1, c .before .before .before .before .before .before .before .before .before .before .pre .2, ← (c .before .before .before .before .before .before .before .before .wide-word .ensures), ← (c .before .before .before .before .before .before .before .faults-at .ensures), ← (c .before .before .before .before .before .wide-word2 .ensures), ← (c .before .before .before .before .length-for .ensures), ← (c .before .before .word .ensures), ← (c .word2 .ensures))
-    (sym (and-rest _ (eq-eqb _ _ (c .before .before .before .before .before .before .if1 .left)) ∙ and-rest _ (eq-eqb _ _ (c .before .before .before .if2 .left)) ∙ and-rest _ (eq-eqb _ _ (c .before .if3 .left))))
+    let three = c .before .before in
+    let two = three .before .before .before in
+    let one = two .before .before .before in
+    rw (c .before .word2 .ensures, c .rule-word .ensures)
+    (sym (and-rest _ (eq-eqb _ _ (sym (one .before .before .wide-word .ensures) ∙ one .if1 .left ∙ one .before .faults-at .ensures))
+    ∙ and-rest _ (eq-eqb _ _ (sym (two .before .before .wide-word2 .ensures) ∙ two .if2 .left ∙ two .before .length-for .ensures))
+    ∙ and-rest _ (eq-eqb _ _ (sym (three .before .before .word .ensures) ∙ three .if3 .left ∙ three .before .bounds-word .ensures))))
 
 pub ends-fit-spec : {M : Type 1} → statement M
 ends-fit-spec =
     tie.close
     (tie.spec
     (λ c κs. search needs)
-    (λ c κs. search needs)
+    (λ c κs. tt)
     returns
     (λ c κs. search needs)
-    (λ c κs. search needs)
+    (λ c κs. tt)
     returns-2
     (λ c κs. search needs)
+    (λ c κs. tt)
     returns-3
     (λ c κs. search needs)
+    (λ c κs. tt)
     returns-4)

@@ -20,6 +20,5 @@ entry-for-spec =
     (λ c. search needs)
     (λ c. search needs)
     (λ c. search needs)
-    (λ c. search needs)
     returns
     returns-2)

@@ -1,13 +1,14 @@
--- `front::front_fits` meets its contract: the limits, the state, the offsets and the table's words are tested in this order, each with what
--- the ones before it have shown.
-use mathlib.Core.Path.{_≡_, sym, _∙_}
+-- `front::front_fits` meets its contract: the shape and the length, the offsets, the state and the table's words are tested in this order, each
+-- with what the ones before it have shown.
+use mathlib.Core.Path.{_≡_, sym, ap, _∙_}
 use mathlib.Core.Bool.{true}
 use native.Mathlib.Omega.{arith}
 use borrow.Author.Tests.{not-true, not-false}
+use borrow.Author.Needs.{needs}
 use Rattle.rules.proofs.States.{State, state-of}
-use Rattle.store.specs.Checker.{limitsFit, frontFits}
+use Rattle.store.specs.Checker.{limitsFit, offsetsFit, frontFits}
 use Rattle.store.proofs.Rows.{and-rest, and-fails}
-use Rattle.store.proofs.FrontLaws.{fit-long}
+use Rattle.store.proofs.FrontLaws.{fit-is}
 use Rattle.store.proofs.front.front_fits.Statement.{statement}
 use Rattle.store.proofs.front.front_fits.Tie as tie
 
@@ -15,8 +16,11 @@ use Rattle.store.proofs.front.front_fits.Tie as tie
 limits : (c : tie.Else1) → limitsFit (c .before .before .before .args .w .now) ≡ true
 limits c = sym (c .before .limits-fit .ensures) ∙ not-false (c .before .limits-fit .result) (c .if1 .left)
 
-state : (c : tie.Else2) → State (c .before .before .header .result .maxp) (c .before .before .header .result .p)
-state c = state-of _ _ (sym (c .before .state-ok .ensures) ∙ not-false (c .before .state-ok .result) (c .if2 .left))
+offsets : (c : tie.Else2) → offsetsFit (c .before .before .before .before .before .args .w .now) ≡ true
+offsets c = sym (c .before .offsets-fit .ensures) ∙ not-false (c .before .offsets-fit .result) (c .if2 .left)
+
+state : (c : tie.Else3) → State (c .before .before .header .result .top) (c .before .before .header .result .maxp) (c .before .before .header .result .p)
+state c = state-of _ _ _ (sym (c .before .state-ok .ensures) ∙ not-false (c .before .state-ok .result) (c .if3 .left))
 
 returns : tie.Need-returns
 unfolding frontFits
@@ -24,37 +28,26 @@ returns c = sym (and-fails _ (sym (c .before .limits-fit .ensures) ∙ not-true 
 
 returns-2 : tie.Need-returns-2
 unfolding frontFits
-returns-2 c =
-    let r = c .before .before .header .ensures in
-    rw (r .maxp, r .state)
-    (sym (and-rest _ (limits (c .before .before .before)) ∙ and-fails _ (sym (c .before .state-ok .ensures) ∙ not-true (c .before .state-ok .result) (c .if2 .taken))))
-
-offsets-fit-requires : tie.Need-offsets-fit-requires
-offsets-fit-requires c κs =
-    let r = c .before .before .header .ensures in
-    (fit-long _ (limits (c .before .before .before)), r .sized .limit, r .sized .faultLimit)
+returns-2 c = sym (and-rest _ (limits (c .before .before)) ∙ and-fails _ (sym (c .before .offsets-fit .ensures) ∙ not-true (c .before .offsets-fit .result) (c .if2 .taken)))
 
 returns-3 : tie.Need-returns-3
 unfolding frontFits
 returns-3 c =
-    let r = c .before .before .before .before .header .ensures in
-    rw (r .maxp, r .state)
-    (sym (and-rest _ (limits (c .before .before .before .before .before)) ∙ and-rest _ (sym (c .before .before .before .state-ok .ensures) ∙ not-false (c .before .before .before .state-ok .result) (c .before .before .if2 .left))
-    ∙ and-fails _ (sym (c .before .offsets-fit .ensures) ∙ not-true (c .before .offsets-fit .result) (c .if3 .taken))))
-
-add-table-fits : tie.Need-add-table-fits
-add-table-fits c = omega (arith, state (c .before .before) .room)
-
-table-fits-requires : tie.Need-table-fits-requires
-table-fits-requires c κs = (fit-long _ (limits (c .before .before .before .before .before)), state (c .before .before) .room)
+    let two = c .before .before .before in
+    let r = c .before .before .header .ensures in
+    rw (r .shape, r .maxp, r .state, ← (r .sized .top))
+    (sym (and-rest _ (limits (two .before .before)) ∙ and-rest _ (offsets two)
+    ∙ and-fails _ (sym (c .before .state-ok .ensures) ∙ not-true (c .before .state-ok .result) (c .if3 .taken))))
 
 returns-4 : tie.Need-returns-4
 unfolding frontFits
 returns-4 c =
-    let r = c .before .before .before .before .before .header .ensures in
-    rw (r .maxp, r .state)
-    (c .table-fits .ensures ∙ sym (and-rest _ (limits (c .before .before .before .before .before .before)) ∙ and-rest _ (sym (c .before .before .before .before .state-ok .ensures) ∙ not-false (c .before .before .before .before .state-ok .result) (c .before .before .before .if2 .left))
-    ∙ and-rest _ (sym (c .before .before .offsets-fit .ensures) ∙ not-false (c .before .before .offsets-fit .result) (c .before .if3 .left))))
+    let three = c .before in
+    let two = three .before .before .before in
+    let r = three .before .before .header .ensures in
+    rw (r .shape, r .maxp, r .state, ← (r .sized .top))
+    (c .table-fits .ensures ∙ sym (and-rest _ (limits (two .before .before)) ∙ and-rest _ (offsets two)
+    ∙ and-rest _ (sym (three .before .state-ok .ensures) ∙ not-false (three .before .state-ok .result) (three .if3 .left))))
 
 pub front-fits-spec : {M : Type 1} → statement M
 front-fits-spec =
@@ -62,11 +55,11 @@ front-fits-spec =
     (tie.spec
     (λ c κs. tt)
     returns
-    (λ c κs. limits c)
-    (λ c κs. tt)
+    (λ c κs. fit-is _ (limits c) .head)
     returns-2
-    offsets-fit-requires
+    (λ c κs. (limits (c .before .before), offsets c))
+    (λ c κs. tt)
     returns-3
-    add-table-fits
-    table-fits-requires
+    (λ c. omega (arith, state c .room, c .before .before .header .ensures .sized .room))
+    (λ c κs. (c .before .before .header .ensures .sized, state c .room))
     returns-4)

@@ -1,37 +1,40 @@
--- `front::header` meets its contract: words 1 to 4 are there, and the words are sized.
-use mathlib.Core.Path.{sym}
+-- `front::header` meets its contract: the words that it reads are there, and they are the header's numbers.
+use mathlib.Core.Path.{_≡_, refl, sym, ap, _∙_}
+use mathlib.Core.Bool.{true}
 use native.Mathlib.Omega.{arith}
-use Rattle.store.proofs.FrontLaws.{fit-sized, fit-long}
+use borrow.Author.Needs.{needs}
+use Prim.Native.Nat.{_≤_}
+use lib.ListN.{length}
+use Rattle.model.specs.Layout.{cardWidth}
+use Rattle.model.specs.Shape.{topOf}
+use Rattle.store.proofs.FrontLaws.{fit-is, fit-read}
 use Rattle.store.proofs.front.header.Statement.{statement}
 use Rattle.store.proofs.front.header.Tie as tie
 
-word-requires : tie.Need-word-requires
-word-requires c κs = omega (arith, fit-long _ (c .before .pre))
-
-word-requires-2 : tie.Need-word-requires-2
-word-requires-2 c κs = omega (arith, fit-long _ (c .before .before .pre))
-
-word-requires-3 : tie.Need-word-requires-3
-word-requires-3 c κs = omega (arith, fit-long _ (c .before .before .before .pre))
-
-word-requires-4 : tie.Need-word-requires-4
-word-requires-4 c κs = omega (arith, fit-long _ (c .before .before .before .before .pre))
+head : (c : tie.Start) → 16 ≤ length (c .args .w .now)
+head c = fit-is _ (c .pre .0) .head
 
 returns : tie.Need-returns
 returns c =
-    let s = fit-sized _ (c .before .before .before .before .before .pre) in
-    record {
-      sized = rw (c .before .before .before .word .ensures, c .before .before .word2 .ensures) s;
-      maxp = sym (c .before .word3 .ensures);
-      state = sym (c .word4 .ensures);
-    }
+    let wide3 = c .before .before in
+    let wide2 = wide3 .before .before in
+    let wide = wide2 .before in
+    let shape = wide .before .before in
+    let s = shape .before .before in
+    let e = shape .shape-of .ensures in
+    fit-read (s .args .w .now) _ (s .pre .0) (s .pre .1) e (wide .before .top-of .ensures ∙ ap topOf e) (wide .wide-word .ensures) (wide2 .wide-word2 .ensures)
+    (wide3 .before .card-width .ensures ∙ ap cardWidth e) (wide3 .wide-word3 .ensures) (c .before .word .ensures) (c .word2 .ensures)
 
 pub header-spec : {M : Type 1} → statement M
 header-spec =
     tie.close
     (tie.spec
-    word-requires
-    word-requires-2
-    word-requires-3
-    word-requires-4
+    (λ c κs. head (c .before))
+    (λ c κs. tt)
+    (λ c κs. omega (arith, head (c .before .before .before)))
+    (λ c κs. omega (arith, head (c .before .before .before .before)))
+    (λ c κs. tt)
+    (λ c κs. omega (arith, head (c .before .before .before .before .before .before)))
+    (λ c κs. omega (arith, head (c .before .before .before .before .before .before .before)))
+    (λ c κs. omega (arith, head (c .before .before .before .before .before .before .before .before)))
     returns)

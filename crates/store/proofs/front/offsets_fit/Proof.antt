@@ -1,43 +1,63 @@
 -- `front::offsets_fit` meets its contract: words 9 to 11 are tested, then words 12 to 15.
-use mathlib.Core.Path.{sym, _∙_}
-use borrow.Author.Tests.{eq-eqb, ne-eqb}
+use mathlib.Core.Path.{_≡_, refl, sym, ap, _∙_}
+use mathlib.Core.Bool.{true}
+use native.Mathlib.Omega.{arith}
 use borrow.Author.Needs.{needs}
-use Rattle.model.specs.Layout.{cardsAt}
-use Rattle.store.specs.Checker.{offsetsFit}
+use borrow.Author.Tests.{eq-eqb, ne-eqb, not-true, not-false}
 use Rattle.store.proofs.Rows.{and-rest, and-fails}
+use Rattle.model.specs.Layout.{segmentsAt, cardsAt}
+use Rattle.store.specs.Checker.{offsetsFit}
 use Rattle.store.proofs.front.offsets_fit.Statement.{statement}
 use Rattle.store.proofs.front.offsets_fit.Tie as tie
 
 returns : tie.Need-returns
-unfolding offsetsFit cardsAt
-returns c = rw (← (c .before .wide-word .ensures)) (sym (and-fails _ (ne-eqb _ _ (c .if1 .taken))))
+unfolding offsetsFit
+returns c = sym (and-fails _ (ne-eqb _ _ (λ e. c .if1 .taken (c .before .wide-word .ensures ∙ e))))
 
 returns-2 : tie.Need-returns-2
-unfolding offsetsFit cardsAt
+unfolding offsetsFit
 returns-2 c =
-    rw (← (c .before .before .before .wide-word .ensures), ← (c .before .wide-word2 .ensures)) (sym (and-rest _ (eq-eqb _ _ (c .before .before .if1 .left)) ∙ and-fails _ (ne-eqb _ _ (c .if2 .taken))))
+    let one = c .before .before .before in
+    let s = one .before .before .shape-of .ensures in
+    rw (← s)
+    (sym (and-rest _ (eq-eqb _ _ (sym (one .before .wide-word .ensures) ∙ one .if1 .left))
+    ∙ and-fails _ (ne-eqb _ _ (λ e. c .if2 .taken (c .before .before .wide-word2 .ensures ∙ e ∙ sym (c .before .segments-at .ensures))))))
 
 returns-3 : tie.Need-returns-3
-unfolding offsetsFit cardsAt
+unfolding offsetsFit
 returns-3 c =
-    rw (← (c .before .before .before .before .before .wide-word .ensures), ← (c .before .before .before .wide-word2 .ensures), ← (c .before .wide-word3 .ensures))
-    (sym (and-rest _ (eq-eqb _ _ (c .before .before .before .before .if1 .left)) ∙ and-rest _ (eq-eqb _ _ (c .before .before .if2 .left)) ∙ and-fails _ (ne-eqb _ _ (c .if3 .taken))))
+    let two = c .before .before .before in
+    let one = two .before .before .before in
+    let s = one .before .before .shape-of .ensures in
+    rw (← s)
+    (sym (and-rest _ (eq-eqb _ _ (sym (one .before .wide-word .ensures) ∙ one .if1 .left))
+    ∙ and-rest _ (eq-eqb _ _ (sym (two .before .before .wide-word2 .ensures) ∙ two .if2 .left ∙ two .before .segments-at .ensures))
+    ∙ and-fails _ (ne-eqb _ _ (λ e. c .if3 .taken (c .before .before .wide-word3 .ensures ∙ e ∙ sym (c .before .cards-at .ensures))))))
 
 returns-4 : tie.Need-returns-4
-unfolding offsetsFit cardsAt
+unfolding offsetsFit
 returns-4 c =
-    rw (← (c .before .before .before .before .before .before .wide-word .ensures), ← (c .before .before .before .before .wide-word2 .ensures), ← (c .before .before .wide-word3 .ensures))
-    (c .ends-fit .ensures ∙ sym (and-rest _ (eq-eqb _ _ (c .before .before .before .before .before .if1 .left)) ∙ and-rest _ (eq-eqb _ _ (c .before .before .before .if2 .left)) ∙ and-rest _ (eq-eqb _ _ (c .before .if3 .left))))
+    let three = c .before in
+    let two = three .before .before .before in
+    let one = two .before .before .before in
+    let s = one .before .before .shape-of .ensures in
+    rw (← s)
+    (c .ends-fit .ensures ∙ sym (and-rest _ (eq-eqb _ _ (sym (one .before .wide-word .ensures) ∙ one .if1 .left))
+    ∙ and-rest _ (eq-eqb _ _ (sym (two .before .before .wide-word2 .ensures) ∙ two .if2 .left ∙ two .before .segments-at .ensures))
+    ∙ and-rest _ (eq-eqb _ _ (sym (three .before .before .wide-word3 .ensures) ∙ three .if3 .left ∙ three .before .cards-at .ensures))))
 
 pub offsets-fit-spec : {M : Type 1} → statement M
 offsets-fit-spec =
     tie.close
     (tie.spec
     (λ c κs. search needs)
+    (λ c κs. search needs)
     returns
     (λ c κs. search needs)
+    (λ c κs. tt)
     returns-2
     (λ c κs. search needs)
+    (λ c κs. tt)
     returns-3
     (λ c κs. search needs)
     returns-4)

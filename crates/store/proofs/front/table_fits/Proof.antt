@@ -1,5 +1,6 @@
 -- `front::table_fits` meets its contract: the load is tested, then the directory, then the bucket words past the last bucket.
 use mathlib.Core.Path.{sym, _∙_}
+use native.Mathlib.Omega.{arith}
 use borrow.Author.Needs.{needs}
 use borrow.Author.Tests.{not-true, not-false}
 use Rattle.store.proofs.Rows.{and-rest, and-fails}
@@ -25,8 +26,8 @@ pub table-fits-spec : {M : Type 1} → statement M
 table-fits-spec =
     tie.close
     (tie.spec
-    (λ c κs. search needs)
-    (λ c κs. search needs)
+    (λ c κs. omega (arith, c .before .pre .0 .room))
+    (λ c κs. c .before .before .pre .0 .top)
     returns
     (λ c κs. search needs)
     returns-2

@@ -7,6 +7,7 @@ use borrow.Author.Needs.{needs}
 use borrow.Author.Tests.{eq-eqb, ne-eqb, not-true, not-false}
 use Rattle.store.specs.Walk.{Did, DidAll}
 use Rattle.store.specs.Checker.{freeOf, chainsOf, chainCount}
+use Rattle.store.specs.Cells.{shapeIn}
 use Rattle.store.proofs.Rows.{and-rest, and-fails}
 use Rattle.store.proofs.PartRuns.{limit-is, chains-reach, marks-reach, did-free, did-chains, part-stops, part-runs}
 use Rattle.store.proofs.parts.part_fits.Statement.{statement}
@@ -24,11 +25,11 @@ walk-requires c κs =
       bucket = omega arith;
     }
 
-free : (c : tie.After-walk) → Did (freeOf (c .before .before .before .before .before .before .before .args .w .now) (c .before .before .before .before .before .before .before .args .faults) (c .before .before .before .before .before .before .before .args .scratch .now)) (c .walk .result .ok) (c .walk .result .count) (c .walk .result .last) (c .walk .last .1 .0)
+free : (c : tie.After-walk) → Did (freeOf (shapeIn (c .before .before .before .before .before .before .before .args .h)) (c .before .before .before .before .before .before .before .args .w .now) (c .before .before .before .before .before .before .before .args .faults) (c .before .before .before .before .before .before .before .args .scratch .now)) (c .walk .result .ok) (c .walk .result .count) (c .walk .result .last) (c .walk .last .1 .0)
 free c = did-free (c .before .before .before .before .before .before .before .pre .0) (c .before .before .before .before .before .before .before .args .faults) (c .before .before .before .base-of .ensures) (c .before .before .before .before .limit-of .ensures) _ (c .before .before .free-word .ensures) (c .walk .ensures)
 
 returns : tie.Need-returns
-returns c = part-stops _ _ _ (free (c .before .before .before .before)) (not-true (c .before .before .before .before .walk .result .ok) (c .if1 .taken))
+returns c = part-stops _ _ _ _ (free (c .before .before .before .before)) (not-true (c .before .before .before .before .walk .result .ok) (c .if1 .taken))
 
 chains-requires : tie.Need-chains-requires
 chains-requires c κs =
@@ -44,25 +45,25 @@ chains-requires c κs =
       omega (arith, chains-reach (p .0) f (p .1), c .before .chain-count .ensures),
     )
 
-held : (c : tie.After-chains) → DidAll (chainsOf (c .before .before .before .before .before .before .before .before .before .before .before .before .before .before .args .w .now) (c .before .before .before .before .before .before .before .before .before .before .before .before .before .before .args .faults) (chainCount (c .before .before .before .before .before .before .before .before .before .before .before .before .before .before .args .w .now) (c .before .before .before .before .before .before .before .before .before .before .before .before .before .before .args .faults)) (c .before .before .before .before .before .before .before .walk .last .1 .0)) (c .chains .result .ok) (c .chains .result .total) (c .chains .last .1 .0)
+held : (c : tie.After-chains) → DidAll (chainsOf (shapeIn (c .before .before .before .before .before .before .before .before .before .before .before .before .before .before .args .h)) (c .before .before .before .before .before .before .before .before .before .before .before .before .before .before .args .w .now) (c .before .before .before .before .before .before .before .before .before .before .before .before .before .before .args .faults) (chainCount (shapeIn (c .before .before .before .before .before .before .before .before .before .before .before .before .before .before .args .h)) (c .before .before .before .before .before .before .before .before .before .before .before .before .before .before .args .w .now) (c .before .before .before .before .before .before .before .before .before .before .before .before .before .before .args .faults)) (c .before .before .before .before .before .before .before .walk .last .1 .0)) (c .chains .result .ok) (c .chains .result .total) (c .chains .last .1 .0)
 held c = did-chains (c .before .before .before .before .before .before .before .before .before .before .before .before .before .before .pre .0) (c .before .before .before .before .before .before .before .before .before .before .before .before .before .before .args .faults) (c .before .before .before .before .before .before .before .before .before .before .base-of .ensures) (c .before .before .before .before .before .before .before .before .before .before .before .limit-of .ensures) _ (c .before .before .chain-count .ensures) (c .chains .ensures)
 
 returns-2 : tie.Need-returns-2
 returns-2 c =
-    part-runs _ _ _ (free (c .before .before .before .before .before .before .before .before .before .before .before)) (not-false (c .before .before .before .before .before .before .before .before .before .before .before .walk .result .ok) (c .before .before .before .before .before .before .before .if1 .left)) (held (c .before .before .before .before)) false
+    part-runs _ _ _ _ (free (c .before .before .before .before .before .before .before .before .before .before .before)) (not-false (c .before .before .before .before .before .before .before .before .before .before .before .walk .result .ok) (c .before .before .before .before .before .before .before .if1 .left)) (held (c .before .before .before .before)) false
     (sym (and-fails _ (not-true (c .before .before .before .before .chains .result .ok) (c .if2 .taken))))
 
 held-word-requires : tie.Need-held-word-requires
-held-word-requires c κs = let s = c .before .before .before .before .before .before .before .before .before .before .before .before .before .before .before .before .before .before .pre .0 .sized in omega arith
+held-word-requires c κs = let s = c .before .before .before .before .before .before .before .before .before .before .before .before .before .before .before .before .before .before .pre .0 .sized .room in omega arith
 
 returns-3 : tie.Need-returns-3
 returns-3 c =
-    part-runs _ _ _ (free (c .before .before .before .before .before .before .before .before .before .before .before .before .before .before)) (not-false (c .before .before .before .before .before .before .before .before .before .before .before .before .before .before .walk .result .ok) (c .before .before .before .before .before .before .before .before .before .before .if1 .left)) (held (c .before .before .before .before .before .before .before)) false
+    part-runs _ _ _ _ (free (c .before .before .before .before .before .before .before .before .before .before .before .before .before .before)) (not-false (c .before .before .before .before .before .before .before .before .before .before .before .before .before .before .walk .result .ok) (c .before .before .before .before .before .before .before .before .before .before .if1 .left)) (held (c .before .before .before .before .before .before .before)) false
     (sym (and-rest _ (not-false (c .before .before .before .before .before .before .before .chains .result .ok) (c .before .before .before .if2 .left)) ∙ and-fails _ (ne-eqb _ _ (λ e. c .if3 .taken (e ∙ sym (c .before .before .held-word .ensures))))))
 
 returns-4 : tie.Need-returns-4
 returns-4 c =
-    part-runs _ _ _ (free (c .before .before .before .before .before .before .before .before .before .before .before .before .before .before .before .before)) (not-false (c .before .before .before .before .before .before .before .before .before .before .before .before .before .before .before .before .walk .result .ok) (c .before .before .before .before .before .before .before .before .before .before .before .before .if1 .left)) (held (c .before .before .before .before .before .before .before .before .before)) _
+    part-runs _ _ _ _ (free (c .before .before .before .before .before .before .before .before .before .before .before .before .before .before .before .before)) (not-false (c .before .before .before .before .before .before .before .before .before .before .before .before .before .before .before .before .walk .result .ok) (c .before .before .before .before .before .before .before .before .before .before .before .before .if1 .left)) (held (c .before .before .before .before .before .before .before .before .before)) _
     (rw (← (limit-is (c .before .before .before .before .before .before .before .before .before .before .before .before .before .before .before .before .before .before .before .before .before .before .before .pre .0) (c .before .before .before .before .before .before .before .before .before .before .before .before .before .before .before .before .before .before .before .before .before .before .before .args .faults)), ← (c .before .before .before .before .before .before .before .before .before .before .before .before .before .before .before .before .before .before .before .before .limit-of .ensures))
     (sym (and-rest _ (not-false (c .before .before .before .before .before .before .before .before .before .chains .result .ok) (c .before .before .before .before .before .if2 .left)) ∙ and-rest _ (eq-eqb _ _ (c .before .before .if3 .left ∙ c .before .before .before .before .held-word .ensures)))))
 

@@ -6,15 +6,15 @@ use Rattle.store.proofs.plans.bucket_len.Statement.{statement}
 use Rattle.store.proofs.plans.bucket_len.Tie as tie
 
 word-requires : tie.Need-word-requires
-word-requires c κs = let p = c .before .pre in bucket-word (p .0) (p .1) (p .2)
+word-requires c κs = let p = c .before .before .pre in bucket-word (p .0) (p .1) (p .2)
 
 chain-len-requires : tie.Need-chain-len-requires
-chain-len-requires c κs = let p = c .before .before .pre in (p .1 .sized, rw (c .word .ensures) (bucket-chain (p .0) (p .1) (p .2)))
+chain-len-requires c κs = let p = c .before .before .before .pre in (p .1 .sized, rw (c .word .ensures, p .1 .sized .segments) (bucket-chain (p .0) (p .1) (p .2)))
 
 returns : tie.Need-returns
 returns c =
-    let p = c .before .before .before .pre in
-    c .chain-len .ensures ∙ rw (c .before .word .ensures) (bucket-length (p .0) (p .1) (p .2))
+    let p = c .before .before .before .before .pre in
+    c .chain-len .ensures ∙ rw (c .before .word .ensures, p .1 .sized .segments) (bucket-length (p .0) (p .1) (p .2))
 
 pub bucket-len-spec : {M : Type 1} → statement M
 bucket-len-spec =

@@ -7,10 +7,10 @@ use Rattle.store.proofs.plans.buckets.Statement.{statement}
 use Rattle.store.proofs.plans.buckets.Tie as tie
 
 add-result : tie.Need-add-result
-add-result c = omega (arith, size-room (c .before .before .before .pre) (c .before .header-of .ensures) .1)
+add-result c = omega (arith, size-room (c .before .before .before .pre) (c .before .header-of .ensures) .1, c .before .header-of .ensures .sized .room)
 
 returns : tie.Need-returns
-returns c = omega (arith, read-store (c .before .header-of .ensures) .2, read-store (c .before .header-of .ensures) .3)
+returns c = omega (arith, read-store (c .before .header-of .ensures) .1, read-store (c .before .header-of .ensures) .2)
 
 pub buckets-spec : {M : Type 1} → statement M
 buckets-spec = tie.close (tie.spec (λ c κs. search needs) add-result returns)

@@ -6,15 +6,16 @@ use native.Mathlib.Omega.{arith}
 use lib.ListN.{length}
 use Rattle.model.specs.Layout.{follow}
 use Rattle.model.specs.Meaning.{nextCard}
+use Rattle.store.specs.Cells.{shapeIn}
 use Rattle.store.proofs.AlongLaws.{Along, along-start, along-from, along-to, along-less, along-below, along-next, along-end}
 use Rattle.store.proofs.plans.chain_len.Statement.{statement}
 use Rattle.store.proofs.plans.chain_len.Tie as tie
 
 abbrev Inv-loop : tie.InvT-loop
-Inv-loop w c f first i₀ n₀ i n = Along c (nextCard w) first (length (follow c (nextCard w) first)) i n (λ l. n + length l)
+Inv-loop w h first i₀ n₀ i n = Along (h .cards) (nextCard (shapeIn h) w) first (length (follow (h .cards) (nextCard (shapeIn h) w) first)) i n (λ l. n + length l)
 
 abbrev μ-loop : tie.MeasureT-loop
-μ-loop w c f first i₀ n₀ i n = length (follow c (nextCard w) first) - n
+μ-loop w h first i₀ n₀ i n = length (follow (h .cards) (nextCard (shapeIn h) w) first) - n
 
 loop-holds : tie.Need-loop-holds Inv-loop μ-loop
 loop-holds c = along-start (λ l. 0 + length l) (c .before .pre .1) (omega arith)
@@ -25,7 +26,7 @@ add-n c = omega (arith, along-below (c .before .loop .inv) (c .loop-test .taken)
 card-word-requires : tie.Need-card-word-requires Inv-loop μ-loop
 card-word-requires c κs =
     let l = c .before .loop in
-    (c .before .before .before .pre .0, along-from (l .inv) (c .loop-test .taken), along-to (l .inv) (c .loop-test .taken), omega arith)
+    (c .before .before .before .pre .0, along-from (l .inv) (c .loop-test .taken), along-to (l .inv) (c .loop-test .taken), omega (arith, c .before .before .before .pre .0 .room))
 
 loop-less : tie.Need-loop-less Inv-loop μ-loop
 loop-less c = omega (arith, along-less (c .before .before .loop .inv) (c .before .loop-test .taken))

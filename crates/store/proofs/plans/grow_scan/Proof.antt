@@ -18,7 +18,7 @@ add-must-split : tie.Need-add-must-split
 add-must-split c = let p = c .before .before .pre in omega (arith, c .word .ensures, held-room (p .0) (p .1))
 
 add-must-split-2 : tie.Need-add-must-split-2
-add-must-split-2 c = let p = c .before .before .before .pre in omega (arith, size-room (p .0) (p .1) .1)
+add-must-split-2 c = let p = c .before .before .before .pre in omega (arith, size-room (p .0) (p .1) .1, p .1 .sized .room)
 
 returns : tie.Need-returns
 returns c =
@@ -27,7 +27,7 @@ returns c =
     (rw (← (c .before .before .before .word .ensures)) (sym (c .before .must-split .ensures) ∙ not-true (c .before .must-split .result) (c .if1 .taken)))
 
 -- past the test bucket p is split
-splits-p : (c : tie.Else1) → splits (getD (start (c .before) .args .w .now) 5 0 + 1) (start (c .before) .args .h .maxp + start (c .before) .args .h .p) ≡ true
+splits-p : (c : tie.Else1) → splits (start (c .before) .args .h .top) (start (c .before) .args .h .upper) (getD (start (c .before) .args .w .now) 5 0 + 1) (start (c .before) .args .h .maxp + start (c .before) .args .h .p) ≡ true
 splits-p c = rw (← (c .before .before .before .word .ensures)) (sym (c .before .must-split .ensures) ∙ not-false (c .before .must-split .result) (c .if1 .left))
 
 bucket-len-requires : tie.Need-bucket-len-requires

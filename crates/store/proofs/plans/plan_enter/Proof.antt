@@ -1,9 +1,10 @@
 -- `plans::plan_enter` meets its contract: what `find` gives decides between 6 and the rest, and word 5 between 8 and 0.
-use mathlib.Core.Path.{_≡_, sym, _∙_}
+use mathlib.Core.Path.{_≡_, sym, ap, _∙_}
 use mathlib.Core.Bool.{true}
 use borrow.Author.Needs.{needs}
 use borrow.Author.Tests.{not-true, not-false}
 use Rattle.model.specs.Serial.{validSerial}
+use Rattle.model.specs.Shape.{Shape}
 use Rattle.store.proofs.StoredLaws.{read-store}
 use Rattle.store.proofs.PlanLaws.{held-word, enter-invalid, enter-held, enter-full, enter-ahead}
 use Rattle.store.proofs.plans.plan_enter.Statement.{statement}
@@ -38,7 +39,7 @@ returns-3 c =
     let r = f .before .header-of .ensures in
     rw (c .refused3 .ensures)
     (enter-full _ (start (i .before) .pre) _ _ (valid i) (f .find .ensures) (g .before .if2 .left)
-    (sym (held-word (start (i .before) .pre) r) ∙ sym (g .word .ensures) ∙ c .before .if3 .taken ∙ sym (read-store r .0)))
+    (sym (held-word (start (i .before) .pre) r) ∙ sym (g .word .ensures) ∙ c .before .if3 .taken ∙ sym (ap (λ (sh : Shape). sh .limit) (read-store r .0))))
 
 returns-4 : tie.Need-returns-4
 returns-4 c =
@@ -48,7 +49,7 @@ returns-4 c =
     let r = f .before .header-of .ensures in
     rw (c .accepted .ensures, c .before .grow-scan .ensures)
     (enter-ahead _ (start (i .before) .pre) _ _ (valid i) (f .find .ensures) (g .before .if2 .left)
-    (λ k. c .before .before .if3 .left (g .word .ensures ∙ held-word (start (i .before) .pre) r ∙ k ∙ read-store r .0)))
+    (λ k. c .before .before .if3 .left (g .word .ensures ∙ held-word (start (i .before) .pre) r ∙ k ∙ ap (λ (sh : Shape). sh .limit) (read-store r .0))))
 
 pub plan-enter-spec : {M : Type 1} → statement M
 plan-enter-spec =

@@ -1,6 +1,6 @@
 -- `plans::plan_file` meets its contract: what `find` gives decides between 7 and the rest, word 6 between 9 and 0, and the card's own count is
 -- one less than the new one.
-use mathlib.Core.Path.{_≡_, sym, _∙_}
+use mathlib.Core.Path.{_≡_, sym, ap, _∙_}
 use mathlib.Core.Bool.{true}
 use native.Mathlib.Omega.{arith}
 use borrow.Author.Needs.{needs}
@@ -10,6 +10,7 @@ use Rattle.model.specs.Serial.{validSerial, validFault}
 use Rattle.model.specs.Layout.{decode}
 use Rattle.model.specs.Model.{historyIn}
 use Rattle.model.proofs.Sound.{sound-is}
+use Rattle.model.specs.Shape.{Shape}
 use Rattle.store.proofs.StoredLaws.{read-store}
 use Rattle.store.proofs.FindLaws.{HeldCell, is-held, held-cell}
 use Rattle.store.proofs.PlanLaws.{filed-word, held-history, file-invalid, file-bad, file-missing, file-full, file-ahead}
@@ -58,7 +59,7 @@ held : (c : tie.Else3) → looked c .find .result .held ≡ true
 held c = not-false (looked c .find .result .held) (c .if3 .left)
 
 cell : (c : tie.Else3) → HeldCell (begun (looked c .before .before) .args .w .now) (take (begun (looked c .before .before) .args .len) (begun (looked c .before .before) .args .serial))
-    (looked c .before .header-of .result .cards) (looked c .before .header-of .result .faults) (looked c .find .result .cell)
+    (looked c .before .header-of .result) (looked c .find .result .cell)
 cell c = held-cell (looked c .before .header-of .ensures) (is-held (sound-is _ (begun (looked c .before .before) .pre) .0) _ (looked c .find .ensures) (held c))
 
 returns-4 : tie.Need-returns-4
@@ -69,12 +70,12 @@ returns-4 c =
     let r = f .before .header-of .ensures in
     rw (c .refused4 .ensures)
     (file-full _ (begun j .pre) _ _ (valid (j .before .before)) (f .find .ensures) (held (g .before)) _ _ (valid-pair j)
-    (sym (filed-word (begun j .pre) r) ∙ sym (g .word .ensures) ∙ c .before .if4 .taken ∙ sym (read-store r .1)))
+    (sym (filed-word (begun j .pre) r) ∙ sym (g .word .ensures) ∙ c .before .if4 .taken ∙ sym (ap (λ (sh : Shape). sh .faultLimit) (read-store r .0))))
 
 card-word-requires : tie.Need-card-word-requires
 card-word-requires c κs =
     let h = c .before .before .before in
-    (looked h .before .header-of .ensures .sized, cell h .from-one, cell h .in-limit, omega arith)
+    (looked h .before .header-of .ensures .sized, cell h .from-one, cell h .in-limit, omega (arith, looked h .before .header-of .ensures .sized .room))
 
 -- the card's count is that of its history
 abbrev last-test : tie.After-card-word → tie.Else3
@@ -97,7 +98,7 @@ returns-5 c =
     let r = f .before .header-of .ensures in
     rw (c .accepted .ensures)
     (file-ahead _ (begun j .pre) _ _ (valid (j .before .before)) (f .find .ensures) (held (g .before)) _ _ (valid-pair j)
-    (λ k. c .before .before .if4 .left (g .word .ensures ∙ filed-word (begun j .pre) r ∙ k ∙ read-store r .1)) _ (count (c .before)))
+    (λ k. c .before .before .if4 .left (g .word .ensures ∙ filed-word (begun j .pre) r ∙ k ∙ ap (λ (sh : Shape). sh .faultLimit) (read-store r .0))) _ (count (c .before)))
 
 pub plan-file-spec : {M : Type 1} → statement M
 plan-file-spec =

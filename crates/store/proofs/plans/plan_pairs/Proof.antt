@@ -30,11 +30,11 @@ held : (c : tie.Else1) → looked c .find .result .held ≡ true
 held c = not-false (looked c .find .result .held) (c .if1 .left)
 
 cell : (c : tie.Else1) → HeldCell (start (looked c) .args .w .now) (take (start (looked c) .args .len) (start (looked c) .args .serial))
-    (start (looked c) .args .h .cards) (start (looked c) .args .h .faults) (looked c .find .result .cell)
+    (start (looked c) .args .h) (looked c .find .result .cell)
 cell c = held-cell (start (looked c) .pre .1) (is-held (sound-is _ (start (looked c) .pre .0) .0) _ (looked c .find .ensures) (held c))
 
 card-word-requires : tie.Need-card-word-requires
-card-word-requires c κs = (start (looked c) .pre .1 .sized, cell c .from-one, cell c .in-limit, omega arith)
+card-word-requires c κs = (start (looked c) .pre .1 .sized, cell c .from-one, cell c .in-limit, omega (arith, start (looked c) .pre .1 .sized .room))
 
 -- the card's count is that of its history
 count : (c : tie.After-card-word) → c .card-word .result

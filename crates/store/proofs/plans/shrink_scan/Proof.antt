@@ -15,7 +15,7 @@ abbrev start : tie.After-must-contract → tie.Start
 start c = c .before .before .before .before .before
 
 add-size : tie.Need-add-size
-add-size c = let p = c .before .before .before .pre in omega (arith, size-room (p .0) (p .1) .1)
+add-size c = let p = c .before .before .before .pre in omega (arith, size-room (p .0) (p .1) .1, p .1 .sized .room)
 
 returns : tie.Need-returns
 returns c =
@@ -24,7 +24,7 @@ returns c =
     (rw (← (c .before .before .before .before .word .ensures), ← (c .before .before .less .ensures)) (sym (c .before .must-contract .ensures) ∙ not-true (c .before .must-contract .result) (c .if1 .taken)))
 
 -- past the test the last bucket is joined
-joins : (c : tie.Else1) → contracts (getD (start (c .before) .args .w .now) 5 0 - 1) (start (c .before) .args .h .maxp + start (c .before) .args .h .p) ≡ true
+joins : (c : tie.Else1) → contracts (start (c .before) .args .h .lower) (getD (start (c .before) .args .w .now) 5 0 - 1) (start (c .before) .args .h .maxp + start (c .before) .args .h .p) ≡ true
 joins c =
     rw (← (c .before .before .before .before .word .ensures), ← (c .before .before .less .ensures)) (sym (c .before .must-contract .ensures) ∙ not-false (c .before .must-contract .result) (c .if1 .left))
 

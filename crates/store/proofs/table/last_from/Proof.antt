@@ -10,23 +10,24 @@ use Rattle.model.specs.Meaning.{nextCard}
 use Rattle.model.proofs.Chains.{follow-none}
 use Rattle.store.specs.Search.{Ends}
 use Rattle.store.specs.Table.{lastFrom}
+use Rattle.store.specs.Cells.{shapeIn}
 use Rattle.store.proofs.AlongLaws.{last-after-none}
 use Rattle.store.proofs.EndsLaws.{ends-on, ends-here, ends-less}
 use Rattle.store.proofs.table.last_from.Statement.{statement}
 use Rattle.store.proofs.table.last_from.Tie as tie
 
 abbrev Inv-loop : tie.InvT-loop
-Inv-loop w c f first i₀ last₀ i before = Ends c (nextCard w) i × (last (before ∷ follow c (nextCard w) i) ≡ lastFrom c w first)
+Inv-loop w h first i₀ last₀ i before = Ends (h .cards) (nextCard (shapeIn h) w) i × (last (before ∷ follow (h .cards) (nextCard (shapeIn h) w) i) ≡ lastFrom (shapeIn h) w first)
 
 abbrev μ-loop : tie.MeasureT-loop
-μ-loop w c f first i₀ last₀ i before = length (follow c (nextCard w) i)
+μ-loop w h first i₀ last₀ i before = length (follow (h .cards) (nextCard (shapeIn h) w) i)
 
 loop-holds : tie.Need-loop-holds Inv-loop μ-loop
 unfolding lastFrom
 loop-holds c = (c .before .pre .1, last-after-none _)
 
 card-word-requires : tie.Need-card-word-requires Inv-loop μ-loop
-card-word-requires c κs = let h = ends-here (c .before .loop .inv .0) (c .loop-test .taken) in (c .before .before .before .pre .0, h .0, h .1, omega arith)
+card-word-requires c κs = let h = ends-here (c .before .loop .inv .0) (c .loop-test .taken) in (c .before .before .before .pre .0, h .0, h .1, omega (arith, c .before .before .before .pre .0 .room))
 
 loop-less : tie.Need-loop-less Inv-loop μ-loop
 loop-less c = rw (c .card-word .ensures) (ends-less (c .before .before .loop .inv .0) (c .before .loop-test .taken))

@@ -7,7 +7,7 @@ use Rattle.store.proofs.table.open_bucket.Tie as tie
 
 returns : tie.Need-returns
 unfolding openWords
-returns c = rw (eq-eqb _ _ (c .if1 .taken))
+returns c = rw (eq-eqb _ _ (c .if1 .taken), ← (c .before .before .pre .0 .segments))
 
 returns-2 : tie.Need-returns-2
 unfolding openWords

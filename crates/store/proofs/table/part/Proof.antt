@@ -10,43 +10,43 @@ use Rattle.rules.specs.Table.{top}
 use Rattle.model.specs.Layout.{segmentsAt, cardWidth, follow}
 use Rattle.model.specs.Meaning.{nextCard}
 use Rattle.model.specs.Words.{linkAt}
+use Rattle.store.specs.Cells.{shapeIn}
+use Prim.Native.Nat.{ℕ}
+use lib.ListN.{getD}
+use Rattle.store.proofs.CellLaws.{sized-same, bucket-at}
 use Rattle.store.proofs.PartingLaws.{Parting, part-start, part-long, part-cell, part-go, part-stay, part-end, go-less, stay-less}
 use Rattle.store.proofs.table.part.Statement.{statement}
 use Rattle.store.proofs.table.part.Tie as tie
 
 abbrev Inv-loop : tie.InvT-loop
-Inv-loop w₀ c f maxp p n x₀ k₀ g₀ w x k g = Parting c f maxp p w₀ w x k g
+Inv-loop w₀ h maxp p segments n x₀ k₀ g₀ w x k g = Parting h w₀ w x k g
 
 abbrev μ-loop : tie.MeasureT-loop
-μ-loop w₀ c f maxp p n x₀ k₀ g₀ w x k g = length (follow c (nextCard w) x)
+μ-loop w₀ h maxp p segments n x₀ k₀ g₀ w x k g = length (follow (h .cards) (nextCard (shapeIn h) w) x)
 
 abbrev start : (i : tie.In-loop Inv-loop μ-loop) → tie.Start Inv-loop μ-loop
 start i = i .before .before .before .before .before
 
 -- in a turn cell x is a card's
-cell : (i : tie.In-loop Inv-loop μ-loop) → (1 ≤ i .before .loop .x) × (i .before .loop .x ≤ start i .args .c)
+cell : (i : tie.In-loop Inv-loop μ-loop) → (1 ≤ i .before .loop .x) × (i .before .loop .x ≤ start i .args .h .cards)
 cell i = part-cell (start i .pre) (i .before .loop .inv) (i .loop-test .taken)
 
--- and the words are as long as at the start
-long : (i : tie.In-loop Inv-loop μ-loop) → segmentsAt + top + cardWidth * start i .args .c ≤ length (i .before .loop .w)
-long i = omega (arith, i .before .loop .inv .sized .long)
-
 loop-holds : tie.Need-loop-holds Inv-loop μ-loop
-loop-holds c = part-start (c .before .before .before .pre) (c .word .ensures)
+loop-holds c = part-start (c .before .before .before .pre) (c .word .ensures ∙ ap (λ (n : ℕ). getD (c .before .before .before .args .w .now) n 0) (bucket-at (c .before .before .before .pre .read .sized) _))
 
 card-word-requires : tie.Need-card-word-requires Inv-loop μ-loop
-card-word-requires c κs = let i = c .before in (i .before .loop .inv .sized, cell i .0, cell i .1, omega arith)
+card-word-requires c κs = let i = c .before in (i .before .loop .inv .sized, cell i .0, cell i .1, omega (arith, i .before .loop .inv .sized .room))
 
 moves-requires : tie.Need-moves-requires Inv-loop μ-loop
-moves-requires c κs = let i = c .before .before .before in (i .before .loop .inv .sized, start i .pre .some, start i .pre .room, cell i .0, cell i .1)
+moves-requires c κs = let i = c .before .before .before in (i .before .loop .inv .sized, start i .pre .some, omega (arith, start i .pre .room, i .before .loop .inv .sized .room), cell i .0, cell i .1)
 
 link-requires : tie.Need-link-requires Inv-loop μ-loop
-link-requires c κs = let i = c .before .before .before .before .before .before in (long i, start i .pre .room, i .before .loop .inv .lowG)
+link-requires c κs = let i = c .before .before .before .before .before .before in (i .before .loop .inv .sized, start i .pre .room, i .before .loop .inv .lowG)
 
 link-requires-2 : tie.Need-link-requires-2 Inv-loop μ-loop
 link-requires-2 c κs =
     let i = c .before .before .before .before .before .before in
-    (long i, omega (arith, start i .pre .room), i .before .loop .inv .lowK)
+    (i .before .loop .inv .sized, omega (arith, start i .pre .room), i .before .loop .inv .lowK)
 
 loop-less : tie.Need-loop-less Inv-loop μ-loop
 loop-less c =
@@ -78,14 +78,14 @@ link-requires-3 : tie.Need-link-requires-3 Inv-loop μ-loop
 link-requires-3 c κs =
     let a = c .before .before in
     let s = a .before .before .before .before in
-    (omega (arith, a .loop .inv .sized .long), omega (arith, s .pre .room), a .loop .inv .lowK)
+    (a .loop .inv .sized, omega (arith, s .pre .room), a .loop .inv .lowK)
 
 link-requires-4 : tie.Need-link-requires-4 Inv-loop μ-loop
 link-requires-4 c κs =
     let l = c .before .before .before in
     let a = l .before .before .before in
     let s = a .before .before .before .before in
-    (omega (arith, l .link3 .kept .0, a .loop .inv .sized .long), s .pre .room, a .loop .inv .lowG)
+    (sized-same (a .loop .inv .sized) (l .link3 .kept .0), s .pre .room, a .loop .inv .lowG)
 
 same-length : tie.Need-same-length Inv-loop μ-loop
 same-length c =
@@ -99,7 +99,7 @@ returns c =
     let a = l .before .before .before in
     let s = a .before .before .before .before in
     c .before .before .link4 .ensures
-    ∙ ap (λ (u : List ℕ). set u (linkAt (s .args .maxp + s .args .p) (a .loop .g)) 0) (l .link3 .ensures)
+    ∙ ap (λ (u : List ℕ). set u (linkAt (shapeIn (s .args .h)) (s .args .h .maxp + s .args .h .p) (a .loop .g)) 0) (l .link3 .ensures)
     ∙ part-end (s .pre) (a .loop .inv) (l .before .before .loop-test .left)
 
 pub part-spec : {M : Type 1} → statement M
@@ -108,9 +108,10 @@ part-spec =
     (tie.spec
     Inv-loop
     μ-loop
-    (λ c. omega (arith, c .before .pre .room))
+    (λ c. omega (arith, c .before .pre .room, c .before .pre .read .sized .room))
     (λ c. search needs)
-    (λ c κs. omega (arith, c .before .before .pre .room, c .before .before .pre .read .sized .long))
+    (λ c. omega (arith, c .before .before .pre .room, c .before .before .pre .read .sized .room))
+    (λ c κs. omega (arith, c .before .before .pre .room, c .before .before .pre .read .sized .room))
     loop-holds
     card-word-requires
     moves-requires

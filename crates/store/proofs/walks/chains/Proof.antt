@@ -5,17 +5,18 @@ use native.Mathlib.Omega.{arith}
 use borrow.Author.Tests.{not-true, not-false}
 use Rattle.store.specs.Walk.{Did, walkOn}
 use Rattle.store.specs.Checker.{nextIn, startOf}
+use Rattle.store.specs.Cells.{shapeIn}
 use Rattle.store.proofs.WalkLaws.{Holding, begins, ends, refuses, kept-long, total-le, carries-on}
 use Rattle.store.proofs.CellLaws.{bucket-most}
 use Rattle.store.proofs.walks.chains.Statement.{statement}
 use Rattle.store.proofs.walks.chains.Tie as tie
 
 abbrev Inv-loop : tie.InvT-loop
-Inv-loop w scratch₀ h faults base limit n c f j₀ total₀ scratch j total =
-    Holding (startOf w faults) (nextIn w faults) scratch₀ base limit n scratch j total
+Inv-loop w scratch₀ h faults base limit n j₀ total₀ scratch j total =
+    Holding (startOf (shapeIn h) w faults) (nextIn (shapeIn h) w faults) scratch₀ base limit n scratch j total
 
 abbrev μ-loop : tie.MeasureT-loop
-μ-loop w scratch₀ h faults base limit n c f j₀ total₀ scratch j total = n - j
+μ-loop w scratch₀ h faults base limit n j₀ total₀ scratch j total = n - j
 
 loop-holds : tie.Need-loop-holds Inv-loop μ-loop
 loop-holds c = begins _ _ _ _ _ _
@@ -28,14 +29,14 @@ walk-requires c κs =
     let p = c .before .before .before .before .before .before .before .pre .0 in
     let g = c .before .before .before .before .loop .inv in
     let e = c .before .bucket-of .ensures in
-    record { read = p .read; cells = p .cells; marks = p .marks; scratch = omega arith; bucket = omega (arith, bucket-most (c .before .before .before .before .before .before .before .args .w .now) (c .before .before .before .before .before .before .before .args .faults) (c .before .before .before .before .loop .j) (omega arith)) }
+    record { read = p .read; cells = p .cells; marks = p .marks; scratch = omega arith; bucket = omega (arith, p .read .sized .top, bucket-most (shapeIn (c .before .before .before .before .before .before .before .args .h)) (c .before .before .before .before .before .before .before .args .faults) (c .before .before .before .before .loop .j) (omega arith)) }
 
 passes-requires : tie.Need-passes-requires Inv-loop μ-loop
 passes-requires c κs = (c .before .before .before .before .before .before .before .before .before .before .pre .0 .read .sized, omega arith)
 
 -- what the walk of chain j answered
 did : (c : tie.After-walk Inv-loop μ-loop)
-    → Did (walkOn (nextIn (c .before .before .before .before .before .before .before .before .args .w .now) (c .before .before .before .before .before .before .before .before .args .faults)) (c .before .before .before .before .before .before .before .before .args .base) (c .before .before .before .before .before .before .before .before .args .limit) (c .before .before .before .before .before .loop .scratch) (startOf (c .before .before .before .before .before .before .before .before .args .w .now) (c .before .before .before .before .before .before .before .before .args .faults) (c .before .before .before .before .before .loop .j))) (c .walk .result .ok) (c .walk .result .count) (c .walk .result .last) (c .walk .last .1 .0)
+    → Did (walkOn (nextIn (shapeIn (c .before .before .before .before .before .before .before .before .args .h)) (c .before .before .before .before .before .before .before .before .args .w .now) (c .before .before .before .before .before .before .before .before .args .faults)) (c .before .before .before .before .before .before .before .before .args .base) (c .before .before .before .before .before .before .before .before .args .limit) (c .before .before .before .before .before .loop .scratch) (startOf (shapeIn (c .before .before .before .before .before .before .before .before .args .h)) (c .before .before .before .before .before .before .before .before .args .w .now) (c .before .before .before .before .before .before .before .before .args .faults) (c .before .before .before .before .before .loop .j))) (c .walk .result .ok) (c .walk .result .count) (c .walk .result .last) (c .walk .last .1 .0)
 did c = rw (c .before .before .before .first-of .ensures, c .before .before .bucket-of .ensures) at (c .walk .ensures)
 
 same-length : tie.Need-same-length Inv-loop μ-loop

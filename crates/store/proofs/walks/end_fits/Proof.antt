@@ -18,28 +18,25 @@ returns c = rw (not-true (c .before .before .args .faults) (c .if1 .taken))
 held : (c : tie.Else1) → c .before .before .args .faults ≡ true
 held c = not-false (c .before .before .args .faults) (c .if1 .left)
 
-card : (c : tie.Else1) → c .before .before .args .j < c .before .before .args .c
+card : (c : tie.Else1) → c .before .before .args .j < c .before .before .args .h .cards
 unfolding reachOf
-card c =
-    let s = c .before .before .pre .0 in
-    let a : c .before .before .args .j < getD (c .before .before .args .w .now) 1 0 = rw (held c) at (c .before .before .pre .1) in
-    omega arith
+card c = rw (held c) at (c .before .before .pre .1)
 
 add-card-word : tie.Need-add-card-word
-add-card-word c = omega (arith, card c, c .before .before .pre .0 .most)
+add-card-word c = omega (arith, card c, c .before .before .pre .0 .room)
 
 card-word-requires : tie.Need-card-word-requires
-card-word-requires c κs = (c .before .before .pre .0, omega arith, omega (arith, card c), omega arith)
+card-word-requires c κs = (c .before .before .pre .0, omega arith, omega (arith, card c), omega (arith, c .before .before .pre .0 .room))
 
 returns-2 : tie.Need-returns-2
 unfolding endFits
 returns-2 c = rw (held (c .before .before)) (sym (and-fails _ (ne-eqb _ _ (λ e. c .if2 .taken (e ∙ sym (c .before .card-word .ensures))))))
 
 add-card-word-2 : tie.Need-add-card-word-2
-add-card-word-2 c = omega (arith, card (c .before .before), c .before .before .before .before .pre .0 .most)
+add-card-word-2 c = omega (arith, card (c .before .before), c .before .before .before .before .pre .0 .room)
 
 card-word-requires-2 : tie.Need-card-word-requires-2
-card-word-requires-2 c κs = (c .before .before .before .before .pre .0, omega arith, omega (arith, card (c .before .before)), omega arith)
+card-word-requires-2 c κs = (c .before .before .before .before .pre .0, omega arith, omega (arith, card (c .before .before)), omega (arith, c .before .before .before .before .pre .0 .room))
 
 returns-3 : tie.Need-returns-3
 unfolding endFits

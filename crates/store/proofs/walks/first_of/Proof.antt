@@ -3,31 +3,29 @@ use Prim.Native.Nat.{_<_}
 use native.Mathlib.Omega.{arith}
 use borrow.Author.Needs.{needs}
 use lib.ListN.{getD}
-use Rattle.rules.specs.Table.{top}
+use Rattle.model.specs.Shape.{topOf}
+use Rattle.store.specs.Cells.{shapeIn}
 use Rattle.store.specs.Checker.{firstOf, reachOf}
 use Rattle.store.proofs.walks.first_of.Statement.{statement}
 use Rattle.store.proofs.walks.first_of.Tie as tie
 
 -- the chain is one of those that there are
-card : (c : tie.Then1) → c .before .before .args .j < c .before .before .args .c
+card : (c : tie.Then1) → c .before .before .args .j < c .before .before .args .h .cards
 unfolding reachOf
-card c =
-    let s = c .before .before .pre .0 in
-    let a : c .before .before .args .j < getD (c .before .before .args .w .now) 1 0 = rw (c .if1 .taken) at (c .before .before .pre .1) in
-    omega arith
+card c = rw (c .if1 .taken) at (c .before .before .pre .1)
 
 add-card-word : tie.Need-add-card-word
-add-card-word c = omega (arith, card c, c .before .before .pre .0 .most)
+add-card-word c = omega (arith, card c, c .before .before .pre .0 .room)
 
 card-word-requires : tie.Need-card-word-requires
-card-word-requires c κs = (c .before .before .pre .0, omega arith, omega (arith, card c), omega arith)
+card-word-requires c κs = (c .before .before .pre .0, omega arith, omega (arith, card c), omega (arith, c .before .before .pre .0 .room))
 
 word-requires : tie.Need-word-requires
 unfolding reachOf
 word-requires c κs =
-    let s = c .before .before .pre .0 in
-    let a : c .before .before .args .j < top = rw (c .if1 .left) at (c .before .before .pre .1) in
-    omega arith
+    let s = c .before .before .before .pre .0 in
+    let a : c .before .before .before .args .j < topOf (shapeIn (c .before .before .before .args .h)) = rw (c .before .if1 .left) at (c .before .before .before .pre .1) in
+    omega (arith, a, s .top, s .room)
 
 returns : tie.Need-returns
 unfolding firstOf
@@ -35,7 +33,9 @@ returns c = rw (c .before .if1 .taken) (c .card-word .ensures)
 
 returns-2 : tie.Need-returns-2
 unfolding firstOf
-returns-2 c = rw (c .before .if1 .left) (c .word .ensures)
+returns-2 c =
+    let s = c .before .before .before .before .pre .0 in
+    rw (c .before .before .if1 .left, ← (s .segments)) (c .word .ensures)
 
 pub first-of-spec : {M : Type 1} → statement M
 first-of-spec =

@@ -6,7 +6,7 @@ use Prim.Native.Nat.{_-_, _≤_, _<_}
 use native.Mathlib.Omega.{arith}
 use borrow.Author.Tests.{not-true, not-false}
 use Rattle.model.specs.Calls.{scratchNeed}
-use Rattle.store.specs.Cells.{cellFits}
+use Rattle.store.specs.Cells.{shapeIn, cellFits}
 use Rattle.store.specs.Walk.{mayCome}
 use Rattle.store.specs.Checker.{nextIn}
 use Rattle.store.proofs.WalkLaws.{Going, start, below, goes-on, walk-end, walk-bad, may-in, answers}
@@ -15,11 +15,11 @@ use Rattle.store.proofs.walks.walk.Statement.{statement}
 use Rattle.store.proofs.walks.walk.Tie as tie
 
 abbrev Inv-loop : tie.InvT-loop
-Inv-loop w scratch₀ h faults b base limit first c f i₀ n₀ last₀ scratch i n last =
-    Going (cellFits w faults b) (nextIn w faults) scratch₀ base limit first scratch i n last
+Inv-loop w scratch₀ h faults b base limit first i₀ n₀ last₀ scratch i n last =
+    Going (cellFits (shapeIn h) w faults b) (nextIn (shapeIn h) w faults) scratch₀ base limit first scratch i n last
 
 abbrev μ-loop : tie.MeasureT-loop
-μ-loop w scratch₀ h faults b base limit first c f i₀ n₀ last₀ scratch i n last = limit - n
+μ-loop w scratch₀ h faults b base limit first i₀ n₀ last₀ scratch i n last = limit - n
 
 loop-holds : tie.Need-loop-holds Inv-loop μ-loop
 loop-holds c = start _ _ _ _ _ _
@@ -32,7 +32,7 @@ may-come-requires c κs =
 
 -- what is known once the cell has passed: that it has, that it is within the limit, and that fewer than the limit are behind
 passed : (c : tie.Else1 Inv-loop μ-loop)
-    → mayCome (cellFits (c .before .before .before .before .before .before .before .args .w .now) (c .before .before .before .before .before .before .before .args .faults) (c .before .before .before .before .before .before .before .args .b)) (c .before .before .before .before .loop .scratch) (c .before .before .before .before .before .before .before .args .base) (c .before .before .before .before .before .before .before .args .limit) (c .before .before .before .before .loop .i) ≡ true
+    → mayCome (cellFits (shapeIn (c .before .before .before .before .before .before .before .args .h)) (c .before .before .before .before .before .before .before .args .w .now) (c .before .before .before .before .before .before .before .args .faults) (c .before .before .before .before .before .before .before .args .b)) (c .before .before .before .before .loop .scratch) (c .before .before .before .before .before .before .before .args .base) (c .before .before .before .before .before .before .before .args .limit) (c .before .before .before .before .loop .i) ≡ true
 passed c = sym (c .before .may-come .ensures) ∙ not-false (c .before .may-come .result) (c .if1 .left)
 
 within : (c : tie.Else1 Inv-loop μ-loop) → c .before .before .before .before .loop .i ≤ c .before .before .before .before .before .before .before .args .limit
@@ -66,7 +66,7 @@ cell-word-requires c κs =
     let p = c .before .before .before .before .before .before .before .before .before .before .before .pre in
     let e = within (c .before .before .before .before) in
     let z = p .cells in
-    (p .read .sized, omega arith, omega arith, width-some (c .before .before .before .before .before .before .before .before .before .before .before .args .faults))
+    (p .read .sized, omega arith, omega arith, width-some (shapeIn (c .before .before .before .before .before .before .before .before .before .before .before .args .h)) (c .before .before .before .before .before .before .before .before .before .before .before .args .faults))
 
 loop-again : tie.Need-loop-again Inv-loop μ-loop
 loop-again c =

@@ -18,14 +18,14 @@ shrink-requires : tie.Need-shrink-requires
 shrink-requires c κs =
     let k = c .before .before .before in
     let p = start k .pre in
-    rep-fairly (rep-remove _ (p .0) (p .1 .bytes) (p .1 .n) (p .1 .room) (p .1 .plan) (p .1 .done) (k .remove-at .ensures))
+    rep-fairly (rep-remove _ (p .0) (p .1 .bytes) (p .1 .n) (p .1 .room) (p .1 .plan) (p .1 .done) (k .before .before .header-of .ensures) (k .remove-at .ensures))
 
 returns : tie.Need-returns
 returns c =
     let g = c .before .before in
     let k = g .before .before .before .before in
     let p = start k .pre in
-    record { leaves = λ bytes n room q. made-withdraw _ (p .0) bytes n room q (p .1 .done) (k .remove-at .ensures) (g .shrink .ensures) }
+    record { leaves = λ bytes n room q. made-withdraw _ (p .0) bytes n room q (p .1 .done) (k .before .before .header-of .ensures) (k .remove-at .ensures) (g .shrink .ensures) }
 
 pub make-withdraw-spec : {M : Type 1} → statement M
 make-withdraw-spec =

@@ -4,10 +4,12 @@ use mathlib.Core.List.{List}
 use Prim.Native.Nat.{ℕ}
 use borrow.Author.Needs.{needs}
 use lib.ListN.{set}
+use Rattle.model.specs.Layout.{cardWidth}
 use Rattle.store.proofs.writes.free_card.Statement.{statement}
 use Rattle.store.proofs.writes.free_card.Tie as tie
 
 returns : tie.Need-returns
+unfolding cardWidth
 returns c =
     let filled = c .before .before .before .before .before .before in
     c .before .before .put-word .ensures ∙ ap (λ (l : List ℕ). set l 7 (filled .before .before .before .args .i)) (filled .put-card-cell .ensures)

@@ -2,13 +2,15 @@
 -- fault cell.
 use native.Mathlib.Omega.{arith}
 use borrow.Author.Needs.{needs}
+use Rattle.store.specs.Cells.{shapeIn}
+use Rattle.store.proofs.CellLaws.{sized-same}
 use Rattle.store.proofs.EndsLaws.{ends-last}
 use Rattle.store.proofs.ClearLaws.{give-none, give-is}
 use Rattle.store.proofs.writes.give_back.Statement.{statement}
 use Rattle.store.proofs.writes.give_back.Tie as tie
 
 returns : tie.Need-returns
-returns c = let a = c .before .before .args in give-none (a .w .now) (a .first) (a .last) (c .if1 .taken)
+returns c = let a = c .before .before .args in give-none (shapeIn (a .h)) (a .w .now) (a .first) (a .last) (c .if1 .taken)
 
 put-fault-requires : tie.Need-put-fault-requires
 put-fault-requires c κs =
@@ -16,7 +18,7 @@ put-fault-requires c κs =
     let tested = cleared .before .before .before .before in
     let p = tested .before .before .pre in
     let h = ends-last (p .1) (tested .if1 .left) (p .2) in
-    (omega (arith, p .0, cleared .clear-history .kept .0), h .0, omega arith)
+    (sized-same (p .0) (cleared .clear-history .kept .0), h .0, h .1, omega arith)
 
 returns-2 : tie.Need-returns-2
 returns-2 c =
