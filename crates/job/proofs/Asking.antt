@@ -91,24 +91,24 @@ unfolding listedBy
 listed-all kind faults = ⊎-elim (λ k. rw k) (λ k. rw k)
 
 -- so its plan has a card, whose pairs a room for every fault holds; and once they are written, they are those that the step lists
-module _ (s : Store) (g : Good s) (p : Parsed) (k : (p .kind ≡ 2) ⊎ (p .kind ≡ 4)) {r : Plan} (plan : Plans (asked s p .answer) s (p .serial) (p .len) r) (z : r .number ≡ 0)
+module _ (w : List ℕ) (g : Good (decode w)) (p : Parsed) (k : (p .kind ≡ 2) ⊎ (p .kind ≡ 4)) {r : Plan} (plan : Plans (asked (decode w) p .answer) w (p .serial) (p .len) r) (z : r .number ≡ 0)
     (room : List ℕ) (long : 2 * mostFaults ≤ length room) where
-  tells : Tells s (p .serial) (p .len) enough (asked s p)
+  tells : Tells (decode w) (p .serial) (p .len) enough (asked (decode w) p)
   tells = go k (sym (plan .answer .number-is) ∙ z)
     where
-      go : (p .kind ≡ 2) ⊎ (p .kind ≡ 4) → asked s p .answer .number ≡ 0 → Tells s (p .serial) (p .len) enough (asked s p)
-      go (inl e) = rw (asked-withdraw s p e) (withdraw-tells s g (p .serial) (p .len) enough)
-      go (inr e) = rw (asked-show s p e) (show-tells s g (p .serial) (p .len) enough)
+      go : (p .kind ≡ 2) ⊎ (p .kind ≡ 4) → asked (decode w) p .answer .number ≡ 0 → Tells (decode w) (p .serial) (p .len) enough (asked (decode w) p)
+      go (inl e) = rw (asked-withdraw (decode w) p e) (withdraw-tells (decode w) g (p .serial) (p .len) enough)
+      go (inr e) = rw (asked-show (decode w) p e) (show-tells (decode w) g (p .serial) (p .len) enough)
 
-  pub holds-pairs : Holds s r room
-  holds-pairs = record { bytes = p .serial; n = p .len; places = plan .places z; one = tells .held; wide = omega (arith, tells .fits, enough-long) }
+  pub holds-pairs : Holds w r room
+  holds-pairs = record { bytes = p .serial; n = p .len; header = plan .header; places = plan .places z; one = tells .held; wide = omega (arith, tells .fits, enough-long) }
 
-  pub lists-pairs : {left : List ℕ} → Paired s r room left → Lists (p .kind) (asked s p) (r .faults) left
+  pub lists-pairs : {left : List ℕ} → Paired (decode w) r room left → Lists (p .kind) (asked (decode w) p) (r .faults) left
   lists-pairs {left} d =
-      let h = historyIn s (take (p .len) (p .serial)) in
+      let h = historyIn (decode w) (take (p .len) (p .serial)) in
       let f = plan .answer .faults-are in
       record {
-        count-is = rw (sym (plan .answer .number-is) ∙ z, listed-all (p .kind) (asked s p .answer .faults) k) f;
+        count-is = rw (sym (plan .answer .number-is) ∙ z, listed-all (p .kind) (asked (decode w) p .answer .faults) k) f;
         few = omega (arith, tells .fits, enough-long, tells .count, f);
         text-is = rw (f, tells .count, d .pairs-are (p .serial) (p .len) (plan .places z) (tells .held), tells .room-is) (pairs-only h _ ∙ sym (pairs-only h _));
       }
@@ -154,30 +154,30 @@ module _ (w : List ℕ) (ok : sound w ≡ true) (p : Parsed) where
       (show-cases (decode w) g (p .serial) (p .len) (λ (r : Step). r .store ≡ decode w) enough (λ v. refl) (λ v l. refl) (λ v l f. refl) (λ v l f. refl)) refl)
 
 -- one that goes ahead is ready for its change, and what that leaves is what the line leaves
-module _ (s : Store) (p : Parsed) {r : Plan} (plan : Plans (asked s p .answer) s (p .serial) (p .len) r) where
-  as-step : {t : Step} → asked s p ≡ t → Plans (t .answer) s (p .serial) (p .len) r
-  as-step e = subst (λ (t : Step). Plans (t .answer) s (p .serial) (p .len) r) e plan
+module _ (w : List ℕ) (p : Parsed) {r : Plan} (plan : Plans (asked (decode w) p .answer) w (p .serial) (p .len) r) where
+  as-step : {t : Step} → asked (decode w) p ≡ t → Plans (t .answer) w (p .serial) (p .len) r
+  as-step e = subst (λ (t : Step). Plans (t .answer) w (p .serial) (p .len) r) e plan
 
-  left : {t : Step} → asked s p ≡ t → {words : List ℕ} → words ≡ encode (t .store) → words ≡ encode (asked s p .store)
+  left : {t : Step} → asked (decode w) p ≡ t → {words : List ℕ} → words ≡ encode (t .store) → words ≡ encode (asked (decode w) p .store)
   left e h = h ∙ ap (λ (t : Step). encode (t .store)) (sym e)
 
   module _ (k : p .kind ≡ 1) where
-    pub ready-enter : Plans (enterStep s (p .serial) (p .len) .answer) s (p .serial) (p .len) r
-    ready-enter = as-step (asked-enter s p k)
+    pub ready-enter : Plans (enterStep (decode w) (p .serial) (p .len) .answer) w (p .serial) (p .len) r
+    ready-enter = as-step (asked-enter (decode w) p k)
 
-    pub made-enter : {words : List ℕ} → words ≡ encode (enterStep s (p .serial) (p .len) .store) → words ≡ encode (asked s p .store)
-    made-enter = left (asked-enter s p k)
+    pub made-enter : {words : List ℕ} → words ≡ encode (enterStep (decode w) (p .serial) (p .len) .store) → words ≡ encode (asked (decode w) p .store)
+    made-enter = left (asked-enter (decode w) p k)
 
   module _ (k : p .kind ≡ 2) where
-    pub ready-withdraw : r .number ≡ 0 → Ready (withdrawStep s) s r
-    ready-withdraw z = record { bytes = p .serial; n = p .len; room = enough; plan = as-step (asked-withdraw s p k); done = z }
+    pub ready-withdraw : r .number ≡ 0 → Ready (withdrawStep (decode w)) w r
+    ready-withdraw z = record { bytes = p .serial; n = p .len; room = enough; plan = as-step (asked-withdraw (decode w) p k); done = z }
 
-    pub made-withdraw : {words : List ℕ} → Follows (withdrawStep s) s r words → words ≡ encode (asked s p .store)
-    made-withdraw f = left (asked-withdraw s p k) (f .leaves (p .serial) (p .len) enough (as-step (asked-withdraw s p k)))
+    pub made-withdraw : {words : List ℕ} → Follows (withdrawStep (decode w)) w r words → words ≡ encode (asked (decode w) p .store)
+    made-withdraw f = left (asked-withdraw (decode w) p k) (f .leaves (p .serial) (p .len) enough (as-step (asked-withdraw (decode w) p k)))
 
   module _ (k : p .kind ≡ 3) where
-    pub ready-file : r .number ≡ 0 → Ready (fileWith s (p .day) (p .code)) s r
-    ready-file z = record { bytes = p .serial; n = p .len; room = []; plan = as-step (asked-file s p k); done = z }
+    pub ready-file : r .number ≡ 0 → Ready (fileWith (decode w) (p .day) (p .code)) w r
+    ready-file z = record { bytes = p .serial; n = p .len; room = []; plan = as-step (asked-file (decode w) p k); done = z }
 
-    pub made-file : {words : List ℕ} → Follows (fileWith s (p .day) (p .code)) s r words → words ≡ encode (asked s p .store)
-    made-file f = left (asked-file s p k) (f .leaves (p .serial) (p .len) [] (as-step (asked-file s p k)))
+    pub made-file : {words : List ℕ} → Follows (fileWith (decode w) (p .day) (p .code)) w r words → words ≡ encode (asked (decode w) p .store)
+    made-file f = left (asked-file (decode w) p k) (f .leaves (p .serial) (p .len) [] (as-step (asked-file (decode w) p k)))

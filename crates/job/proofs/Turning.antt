@@ -33,7 +33,7 @@ other-room : (a b c d count : ℕ) (room other : List ℕ) → pairText count ro
 unfolding answerOf
 other-room a b c d count room other e = rw e
 
-module _ (w x : List ℕ) (p : Parsed) (told : Told (lineOf x) p) (r : Plan) (plan : Plans (asked (decode w) p .answer) (decode w) (p .serial) (p .len) r)
+module _ (w x : List ℕ) (p : Parsed) (told : Told (lineOf x) p) (r : Plan) (plan : Plans (asked (decode w) p .answer) w (p .serial) (p .len) r)
     (count : ℕ) (room : List ℕ) (lists : Lists (p .kind) (asked (decode w) p) count room) where
   step : asked (decode w) p ≡ stepOf (decode w) (lineOf x)
   step = asked-is (decode w) (lineOf x) p told

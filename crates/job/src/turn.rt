@@ -35,7 +35,7 @@ pub const ROOM: usize = 2 * layout::MOST_FAULTS as usize;
 // The plan of a line, by its kind: 12 for one that is not well formed.
 fn planned(words: &[u32], p: Parsed) -> Plan
     requires { ⌜ sound (now words) ≡ true ⌝ }
-    ensures { λ r. ⌜ Plans (asked (decode (now (words .entry))) p .answer) (decode (now (words .entry))) (p .serial) (p .len) r ⌝ }
+    ensures { λ r. ⌜ Plans (asked (decode (now (words .entry))) p .answer) (now (words .entry)) (p .serial) (p .len) r ⌝ }
 {
     let kind = p.kind;
     let serial = p.serial;
@@ -44,21 +44,13 @@ fn planned(words: &[u32], p: Parsed) -> Plan
         2 => plans::plan_withdraw(words, serial, p.len, ROOM),
         3 => plans::plan_file(words, serial, p.len, p.day, p.code),
         4 => plans::plan_show(words, serial, p.len, ROOM),
-        _ => Plan {
-            number: 12,
-            comparisons: 0,
-            scanned: 0,
-            faults: 0,
-            bucket: 0,
-            cell: 0,
-            prev: 0,
-        },
+        _ => plans::turned_down(words, 12),
     }
 }
 
 // Writes the pairs that a done show or withdraw lists into the room, and says how many there are; any other line lists none.
 fn listed(words: &[u32], p: Parsed, plan: Plan, room: &mut [u32]) -> u32
-    requires { ⌜ (sound (now words) ≡ true) × Plans (asked (decode (now words)) p .answer) (decode (now words)) (p .serial) (p .len) plan × (2 * mostFaults ≤ length (now room)) ⌝ }
+    requires { ⌜ (sound (now words) ≡ true) × Plans (asked (decode (now words)) p .answer) (now words) (p .serial) (p .len) plan × (2 * mostFaults ≤ length (now room)) ⌝ }
     ensures { λ r. ⌜ Lists (p .kind) (asked (decode (now (words .entry))) p) r (now (room .exit)) ⌝ }
 {
     if plan.number != 0 {
@@ -76,7 +68,7 @@ fn listed(words: &[u32], p: Parsed, plan: Plan, room: &mut [u32]) -> u32
 
 // Makes the change of a line that goes ahead; any other leaves the words as they are.
 fn made(words: &mut [u32], p: Parsed, plan: Plan)
-    requires { ⌜ (sound (now words) ≡ true) × Plans (asked (decode (now words)) p .answer) (decode (now words)) (p .serial) (p .len) plan ⌝ }
+    requires { ⌜ (sound (now words) ≡ true) × Plans (asked (decode (now words)) p .answer) (now words) (p .serial) (p .len) plan ⌝ }
     ensures { λ _. ⌜ now (words .exit) ≡ encode (asked (decode (now (words .entry))) p .store) ⌝ }
 {
     if plan.number != 0 {

@@ -43,7 +43,7 @@ module _ (step : Store → Step) (w scratch room : List ℕ) {r : given.Answer} 
 
 -- calls on sound words: a plan that refuses leaves the words and the room, one that goes ahead leaves those of its step
 
-pub plan-done : {s : Store} {bytes : List ℕ} {n : ℕ} {t : Step} {r : Plan} → Plans (t .answer) s bytes n r → {words room : List ℕ} → words ≡ encode (t .store) → room ≡ t .room
+pub plan-done : {w : List ℕ} {bytes : List ℕ} {n : ℕ} {t : Step} {r : Plan} → Plans (t .answer) w bytes n r → {words room : List ℕ} → words ≡ encode (t .store) → room ≡ t .room
     → Does t (answered r) words room
 plan-done p a b = record { answer = p .answer; words-are = a; room-is = b }
 
@@ -51,11 +51,11 @@ module _ (w : List ℕ) (e : sound w ≡ true) (bytes : List ℕ) (n : ℕ) wher
   g : Good (decode w)
   g = sound-good w e .0
 
-  act-refused : (a : Act) {r : Plan} → Plans (perform (decode w) a .answer) (decode w) bytes n r → (r .number ≡ 0 → ⊥)
+  act-refused : (a : Act) {r : Plan} → Plans (perform (decode w) a .answer) w bytes n r → (r .number ≡ 0 → ⊥)
       → Does (perform (decode w) a) (answered r) w (roomOf a)
   act-refused a p z = let k = refused-act (decode w) g a (λ k. z (p .answer .number-is ∙ k)) in plan-done p (words-stay w e (k .0)) (sym (k .1))
 
-  module _ {r : Plan} (p : Plans (enterStep (decode w) bytes n .answer) (decode w) bytes n r) where
+  module _ {r : Plan} (p : Plans (enterStep (decode w) bytes n .answer) w bytes n r) where
     pub enter-refused : (r .number ≡ 0 → ⊥) → Does (enterStep (decode w) bytes n) (answered r) w []
     enter-refused = act-refused (Act.enter bytes n) p
 
@@ -63,7 +63,7 @@ module _ (w : List ℕ) (e : sound w ≡ true) (bytes : List ℕ) (n : ℕ) wher
         → Does (enterStep (decode w) bytes n) (answered r) words []
     enter-done l = plan-done p l (sym (enter-cases (decode w) g bytes n (λ t. t .room ≡ []) (λ v. refl) (λ v l. refl) (λ v l f. refl) (λ v l f. refl)))
 
-  module _ (day code : ℕ) {r : Plan} (p : Plans (fileStep (decode w) bytes n day code .answer) (decode w) bytes n r) where
+  module _ (day code : ℕ) {r : Plan} (p : Plans (fileStep (decode w) bytes n day code .answer) w bytes n r) where
     pub file-refused : (r .number ≡ 0 → ⊥) → Does (fileStep (decode w) bytes n day code) (answered r) w []
     file-refused = act-refused (Act.file bytes n day code) p
 
@@ -71,7 +71,7 @@ module _ (w : List ℕ) (e : sound w ≡ true) (bytes : List ℕ) (n : ℕ) wher
         → Does (fileStep (decode w) bytes n day code) (answered r) words []
     file-done l = plan-done p l (sym (file-cases (decode w) g bytes n (λ t. t .room ≡ []) day code (λ v. refl) (λ v u. refl) (λ v u l. refl) (λ v u l f. refl) (λ v u l f. refl)))
 
-  module _ (room : List ℕ) {r : Plan} (p : Plans (showStep (decode w) bytes n room .answer) (decode w) bytes n r) where
+  module _ (room : List ℕ) {r : Plan} (p : Plans (showStep (decode w) bytes n room .answer) w bytes n r) where
     pub show-refused : (r .number ≡ 0 → ⊥) → Does (showStep (decode w) bytes n room) (answered r) w room
     show-refused = act-refused (Act.show bytes n room) p
 
@@ -79,6 +79,6 @@ module _ (w : List ℕ) (e : sound w ≡ true) (bytes : List ℕ) (n : ℕ) wher
         → Does (showStep (decode w) bytes n room) (answered r) w left
     show-done l = plan-done p (words-stay w e (show-cases (decode w) g bytes n (λ t. t .store ≡ decode w) room (λ v. refl) (λ v l. refl) (λ v l b. refl) (λ v l b. refl))) l
 
-  module _ (room : List ℕ) {r : Plan} (p : Plans (withdrawStep (decode w) bytes n room .answer) (decode w) bytes n r) where
+  module _ (room : List ℕ) {r : Plan} (p : Plans (withdrawStep (decode w) bytes n room .answer) w bytes n r) where
     pub withdraw-refused : (r .number ≡ 0 → ⊥) → Does (withdrawStep (decode w) bytes n room) (answered r) w room
     withdraw-refused = act-refused (Act.withdraw bytes n room) p

@@ -1,5 +1,5 @@
 -- What a plan that goes ahead makes of sound words: the places of the plan are those that the writers ask for (`may-place`, `may-file`,
--- `may-remove`), and the words that they leave are those of the step's store (`made-enter`, `made-file`, `made-withdraw`). A room for pairs
+-- `may-remove`), the header is still that of the words (`read-place`, `read-remove`), and the words that they leave are those of the step's store (`made-enter`, `made-file`, `made-withdraw`). A room for pairs
 -- holds those of the card (`show-holds`, `withdraw-holds`), and with them it is that of the step (`show-room`, `withdraw-room`).
 use mathlib.Core.Path.{_≡_, refl, sym, ap, subst, _∙_}
 use mathlib.Core.Logic.{⊎-elim}
@@ -14,15 +14,15 @@ use Rattle.rules.proofs.Tests.{eq?}
 use Rattle.model.specs.Shape.{Shape, topOf}
 use Rattle.model.specs.Serial.{validSerial, validFault}
 use Rattle.model.specs.Model.{Fault, Card, Store, cards, held, faultsHeld, chainFor, comparisons, splitScan, contractScan, faultCellsOf, placed, grown, entered, filed, historyIn, removed, shrunk, withdrawn}
-use Rattle.model.specs.Layout.{last, follow, cardWidth, faultWidth, cardsAt, faultsAt, cardCell, cardWord, readFault, decode, encode, sound}
+use Rattle.model.specs.Layout.{last, follow, cardWidth, faultWidth, cardsAt, faultsAt, lengthFor, cardCell, cardWord, readFault, decode, encode, sound}
 use Rattle.model.specs.Meaning.{nextFault}
 use Rattle.model.specs.Words.{placeWords, fileWords, removeWords}
 use Rattle.model.specs.Calls.{Step, gives, stays, written, enterStep, fileStep, showStep, withdrawStep}
 use Rattle.model.proofs.Fair.{one, filings, card-count, faults-total, fault-count}
 use Rattle.model.proofs.Sums.{length-total}
 use Rattle.model.proofs.Rep.{Rep, rep-words, size-top}
-use Rattle.model.proofs.Decode.{rep-decode}
-use Rattle.model.proofs.Readings.{held-at, faults-held-at, free-at, free-faults-at}
+use Rattle.model.proofs.Decode.{rep-decode, shape-at}
+use Rattle.model.proofs.Readings.{maxp-at, p-at, held-at, faults-held-at, free-at, free-faults-at}
 use Rattle.model.proofs.Sound.{sound-is, sound-good}
 use Rattle.model.proofs.Look.{look, address-in}
 use Rattle.model.proofs.Steps.{removed-total}
@@ -41,6 +41,7 @@ use Rattle.store.specs.Writes.{MayPlace, MayFile, MayRemove}
 use Rattle.store.specs.declared.plans.Plan.{Plan}
 use Rattle.store.specs.declared.search.Spot.{Spot}
 use Rattle.store.proofs.AlongLaws.{follow-length, last-inside}
+use Rattle.store.proofs.CellLaws.{sized-same}
 use Rattle.store.proofs.StoredLaws.{Stored, read-store}
 use Rattle.store.proofs.FindLaws.{Behind, NotHeld, not-held, IsHeld, is-held, HeldCell, held-cell}
 use Rattle.store.proofs.ShowLaws.{faults-long}
@@ -66,6 +67,17 @@ module _ {w : List ℕ} {s : Store} {c : Card} {after : List Card} (k : Stored w
 -- the cell before a card or behind a chain is a card's, or 0
 prev-inside : {w : List ℕ} {s : Store} {l after : List Card} (prev : ℕ) → ((prev ≡ 0 → ⊥) → Behind w s l after prev) → prev ≤ s .shape .limit
 prev-inside prev f = ⊎-elim (λ (z : prev ≡ 0). omega arith) (λ (d : prev ≡ 0 → ⊥). let k = f d in omega (arith, k .cell-is, k .stored .in-limit)) (eq? prev 0)
+
+-- the header is that of other words too, if the store that they stand for has the same shape and state
+read-kept : {w v : List ℕ} {h : Header} {s : Store} → Read w h → Rep v s → s .shape ≡ decode w .shape → s .maxp ≡ decode w .maxp → s .p ≡ decode w .p → Read v h
+read-kept {w} {v} {h} {s} q t a b c =
+    let z = read-store q in
+    record {
+      sized = sized-same (q .sized) (t .long ∙ ap lengthFor (a ∙ z .0) ∙ sym (q .sized .long));
+      shape = shape-at v s t ∙ a ∙ z .0;
+      maxp = maxp-at v s t ∙ b ∙ z .1;
+      state = p-at v s t ∙ c ∙ z .2;
+    }
 
 -- plans that go ahead
 
@@ -94,7 +106,7 @@ module _ (w : List ℕ) (e : sound w ≡ true) (bytes : List ℕ) (n : ℕ) {r :
       omega (arith, q .bucket-is, address-in (decode w) t (take n bytes), t .number, size-top (decode w) t, ap topOf (read-store k .0), k .sized .top)
 
   -- Enter
-  module _ (p : Plans (enterStep (decode w) bytes n .answer) (decode w) bytes n r) (z : r .number ≡ 0) where
+  module _ (p : Plans (enterStep (decode w) bytes n .answer) w bytes n r) (z : r .number ≡ 0) where
     enter-facts : (validSerial bytes n ≡ true) × (look (decode w) (take n bytes) ≡ []) × (held (decode w) < decode w .shape .limit)
     enter-facts = enter-numbers (decode w) (sound-good w e .0) bytes n .done .0 (sym (p .answer .number-is) ∙ z)
 
@@ -106,8 +118,9 @@ module _ (w : List ℕ) (e : sound w ≡ true) (bytes : List ℕ) (n : ℕ) {r :
     enter-none : NotHeld w (decode w) (take n bytes) (spotOf (decode w) (take n bytes) r false)
     enter-none = spot-none (p .places z) (enter-facts .1)
 
-    pub may-place : {h : Header} → Read w h → MayPlace w h (r .bucket) (r .prev)
-    may-place {h} k =
+    pub may-place : MayPlace w (r .header) (r .bucket) (r .prev)
+    may-place =
+        let k = p .header in
         let s = decode w in
         let t = sound-is w e .0 in
         let l = read-store k .0 in
@@ -124,17 +137,21 @@ module _ (w : List ℕ) (e : sound w ≡ true) (bytes : List ℕ) (n : ℕ) {r :
         }
 
     -- the words with the new card stand for the store with it, and once grown they are those of the step
-    pub rep-place : {h : Header} → Read w h → {v : List ℕ} → v ≡ placeWords (shapeIn h) w (r .bucket) (r .prev) (take n bytes) → Rep v (placed (decode w) (take n bytes))
-    rep-place q i =
+    pub rep-place : {v : List ℕ} → v ≡ placeWords (shapeIn (r .header)) w (r .bucket) (r .prev) (take n bytes) → Rep v (placed (decode w) (take n bytes))
+    rep-place i =
         let (v, l, b) = enter-facts in
-        rw (i, ← (read-store q .0), p .places z .bucket-is, enter-none .prev-is) (rep-placed w (decode w) (sound-is w e .0) (take n bytes) (valid-serial bytes n v) l b)
+        rw (i, ← (read-store (p .header) .0), p .places z .bucket-is, enter-none .prev-is) (rep-placed w (decode w) (sound-is w e .0) (take n bytes) (valid-serial bytes n v) l b)
 
-    pub made-enter : {h : Header} → Read w h → {v u : List ℕ} → v ≡ placeWords (shapeIn h) w (r .bucket) (r .prev) (take n bytes) → u ≡ encode (grown (decode v)) → u ≡ encode (enterStep (decode w) bytes n .store)
+    pub read-place : {v : List ℕ} → v ≡ placeWords (shapeIn (r .header)) w (r .bucket) (r .prev) (take n bytes) → Read v (r .header)
+    unfolding placed
+    read-place i = read-kept (p .header) (rep-place i) refl refl refl
+
+    pub made-enter : {v u : List ℕ} → v ≡ placeWords (shapeIn (r .header)) w (r .bucket) (r .prev) (take n bytes) → u ≡ encode (grown (decode v)) → u ≡ encode (enterStep (decode w) bytes n .store)
     unfolding entered
-    made-enter q i j = j ∙ ap (λ (s : Store). encode (grown s)) (rep-decode _ _ (rep-place q i)) ∙ ap (λ (t : Step). encode (t .store)) (sym enter-step)
+    made-enter i j = j ∙ ap (λ (s : Store). encode (grown s)) (rep-decode _ _ (rep-place i)) ∙ ap (λ (t : Step). encode (t .store)) (sym enter-step)
 
   -- File
-  module _ (day code : ℕ) (p : Plans (fileStep (decode w) bytes n day code .answer) (decode w) bytes n r) (z : r .number ≡ 0) where
+  module _ (day code : ℕ) (p : Plans (fileStep (decode w) bytes n day code .answer) w bytes n r) (z : r .number ≡ 0) where
     file-facts : (validSerial bytes n ≡ true) × (validFault day code ≡ true) × (length (look (decode w) (take n bytes)) ≡ 1) × (faultsHeld (decode w) < decode w .shape .faultLimit)
     file-facts = file-numbers (decode w) (sound-good w e .0) bytes n day code .done .0 (sym (p .answer .number-is) ∙ z)
 
@@ -146,8 +163,10 @@ module _ (w : List ℕ) (e : sound w ≡ true) (bytes : List ℕ) (n : ℕ) {r :
     file-held : IsHeld w (decode w) (take n bytes) (spotOf (decode w) (take n bytes) r true)
     file-held = spot-held (p .places z) (file-facts .2)
 
-    pub may-file : {h : Header} → Read w h → MayFile w h (r .cell)
-    may-file {h} q =
+    pub may-file : MayFile w (r .header) (r .cell)
+    may-file =
+        let q = p .header in
+        let h = r .header in
         let k = held-cell q file-held in
         let s = decode w in
         let t = sound-is w e .0 in
@@ -166,20 +185,20 @@ module _ (w : List ℕ) (e : sound w ≡ true) (bytes : List ℕ) (n : ℕ) {r :
           held = omega (arith, faults-held-at w s t, file-facts .3, f);
         }
 
-    pub made-file : {h : Header} → Read w h → {v : List ℕ} → v ≡ fileWords (shapeIn h) w (r .cell) day code → v ≡ encode (fileStep (decode w) bytes n day code .store)
-    made-file q i =
+    pub made-file : {v : List ℕ} → v ≡ fileWords (shapeIn (r .header)) w (r .cell) day code → v ≡ encode (fileStep (decode w) bytes n day code .store)
+    made-file i =
         let (v, u, l, b) = file-facts in
-        rw (i, ← (read-store q .0), file-step, file-held .cell-is)
+        rw (i, ← (read-store (p .header) .0), file-step, file-held .cell-is)
         (rep-words _ (filed (decode w) (take n bytes) day code) (rep-filed w (decode w) (sound-is w e .0) (take n bytes) day code u (file-held .present) b))
 
   -- Show
-  module _ (room : List ℕ) (p : Plans (showStep (decode w) bytes n room .answer) (decode w) bytes n r) (z : r .number ≡ 0) where
+  module _ (room : List ℕ) (p : Plans (showStep (decode w) bytes n room .answer) w bytes n r) (z : r .number ≡ 0) where
     show-facts : (validSerial bytes n ≡ true) × (length (look (decode w) (take n bytes)) ≡ 1) × (2 * length (historyIn (decode w) (take n bytes)) ≤ length room)
     show-facts = show-numbers (decode w) bytes n room (sound-good w e .0) .done .0 (sym (p .answer .number-is) ∙ z)
 
     -- the room holds the card's pairs, and with them it is that of the step
-    pub show-holds : Holds (decode w) r room
-    show-holds = record { bytes = bytes; n = n; places = p .places z; one = show-facts .1; wide = show-facts .2 }
+    pub show-holds : Holds w r room
+    show-holds = record { bytes = bytes; n = n; header = p .header; places = p .places z; one = show-facts .1; wide = show-facts .2 }
 
     pub show-room : {left : List ℕ} → Paired (decode w) r room left → left ≡ showStep (decode w) bytes n room .room
     unfolding showStep
@@ -188,7 +207,7 @@ module _ (w : List ℕ) (e : sound w ≡ true) (bytes : List ℕ) (n : ℕ) {r :
         k .pairs-are bytes n (p .places z) l ∙ rw (v, l, le-ltb (length room) (2 * length (historyIn (decode w) (take n bytes))) b)
 
   -- Withdraw
-  module _ (room : List ℕ) (p : Plans (withdrawStep (decode w) bytes n room .answer) (decode w) bytes n r) (z : r .number ≡ 0) where
+  module _ (room : List ℕ) (p : Plans (withdrawStep (decode w) bytes n room .answer) w bytes n r) (z : r .number ≡ 0) where
     withdraw-facts : (validSerial bytes n ≡ true) × (length (look (decode w) (take n bytes)) ≡ 1) × (2 * length (historyIn (decode w) (take n bytes)) ≤ length room)
     withdraw-facts = withdraw-numbers (decode w) bytes n room (sound-good w e .0) .done .0 (sym (p .answer .number-is) ∙ z)
 
@@ -202,14 +221,15 @@ module _ (w : List ℕ) (e : sound w ≡ true) (bytes : List ℕ) (n : ℕ) {r :
     withdraw-held = spot-held (p .places z) (withdraw-facts .1)
 
     -- the same of its room
-    pub withdraw-holds : Holds (decode w) r room
-    withdraw-holds = record { bytes = bytes; n = n; places = p .places z; one = withdraw-facts .1; wide = withdraw-facts .2 }
+    pub withdraw-holds : Holds w r room
+    withdraw-holds = record { bytes = bytes; n = n; header = p .header; places = p .places z; one = withdraw-facts .1; wide = withdraw-facts .2 }
 
     pub withdraw-room : {left : List ℕ} → Paired (decode w) r room left → left ≡ withdrawStep (decode w) bytes n room .room
     withdraw-room k = k .pairs-are bytes n (p .places z) (withdraw-facts .1) ∙ ap (λ (t : Step). t .room) (sym withdraw-step)
 
-    pub may-remove : {h : Header} → Read w h → MayRemove w h (r .bucket) (r .prev) (r .cell)
-    may-remove {h} q =
+    pub may-remove : MayRemove w (r .header) (r .bucket) (r .prev) (r .cell)
+    may-remove =
+        let q = p .header in
         let k = held-cell q withdraw-held in
         let s = decode w in
         let t = sound-is w e .0 in
@@ -230,10 +250,14 @@ module _ (w : List ℕ) (e : sound w ≡ true) (bytes : List ℕ) (n : ℕ) {r :
         }
 
     -- the words without the card stand for the store without it, and once shrunk they are those of the step
-    pub rep-remove : {h : Header} → Read w h → {v : List ℕ} → v ≡ removeWords (shapeIn h) w (r .bucket) (r .prev) (r .cell) → Rep v (removed (decode w) (take n bytes))
-    rep-remove q i =
-        rw (i, ← (read-store q .0), p .places z .bucket-is, withdraw-held .prev-is, withdraw-held .cell-is) (rep-removed w (decode w) (sound-is w e .0) (take n bytes) (withdraw-held .present))
+    pub rep-remove : {v : List ℕ} → v ≡ removeWords (shapeIn (r .header)) w (r .bucket) (r .prev) (r .cell) → Rep v (removed (decode w) (take n bytes))
+    rep-remove i =
+        rw (i, ← (read-store (p .header) .0), p .places z .bucket-is, withdraw-held .prev-is, withdraw-held .cell-is) (rep-removed w (decode w) (sound-is w e .0) (take n bytes) (withdraw-held .present))
 
-    pub made-withdraw : {h : Header} → Read w h → {v u : List ℕ} → v ≡ removeWords (shapeIn h) w (r .bucket) (r .prev) (r .cell) → u ≡ encode (shrunk (decode v)) → u ≡ encode (withdrawStep (decode w) bytes n room .store)
+    pub read-remove : {v : List ℕ} → v ≡ removeWords (shapeIn (r .header)) w (r .bucket) (r .prev) (r .cell) → Read v (r .header)
+    unfolding removed
+    read-remove i = read-kept (p .header) (rep-remove i) refl refl refl
+
+    pub made-withdraw : {v u : List ℕ} → v ≡ removeWords (shapeIn (r .header)) w (r .bucket) (r .prev) (r .cell) → u ≡ encode (shrunk (decode v)) → u ≡ encode (withdrawStep (decode w) bytes n room .store)
     unfolding withdrawn
-    made-withdraw q i j = j ∙ ap (λ (s : Store). encode (shrunk s)) (rep-decode _ _ (rep-remove q i)) ∙ ap (λ (t : Step). encode (t .store)) (sym withdraw-step)
+    made-withdraw i j = j ∙ ap (λ (s : Store). encode (shrunk s)) (rep-decode _ _ (rep-remove i)) ∙ ap (λ (t : Step). encode (t .store)) (sym withdraw-step)

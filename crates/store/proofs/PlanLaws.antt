@@ -113,100 +113,101 @@ module _ {w : List ℕ} (e : sound w ≡ true) {h : Header} (q : Read w h) where
 
 -- the two kinds of plans
 
-module _ {s : Store} (bytes : List ℕ) (n : ℕ) {a : Answer} where
-  plan-refused : (k place faults : ℕ) → a ≡ gives (suc k) place 0 faults → Plans a s bytes n (refusal (suc k) place faults)
+module _ {w : List ℕ} {h : Header} (q : Read w h) (bytes : List ℕ) (n : ℕ) {a : Answer} where
+  plan-refused : (k place faults : ℕ) → a ≡ gives (suc k) place 0 faults → Plans a w bytes n (refusal h (suc k) place faults)
   plan-refused k place faults g =
-      rw g (record { answer = record { number-is = refl; comparisons-are = refl; scanned-is = refl; faults-are = refl }; places = λ z. absurd (omega arith) })
+      rw g (record { answer = record { number-is = refl; comparisons-are = refl; scanned-is = refl; faults-are = refl }; header = q; places = λ z. absurd (omega arith) })
 
-  plan-ahead : validSerial bytes n ≡ true → {o : Spot} → Finds s (take n bytes) o → (scan faults : ℕ) → a ≡ gives 0 (o .place) scan faults → Plans a s bytes n (ahead o scan faults)
+  plan-ahead : validSerial bytes n ≡ true → {o : Spot} → Finds (decode w) (take n bytes) o → (scan faults : ℕ) → a ≡ gives 0 (o .place) scan faults → Plans a w bytes n (ahead h o scan faults)
   plan-ahead v f scan faults g =
       rw g (record {
         answer = record { number-is = refl; comparisons-are = refl; scanned-is = refl; faults-are = refl };
+        header = q;
         places = λ z. record { valid = v; bucket-is = f .bucket-is; cell-is = f .cell-is; prev-is = f .prev-is };
       })
 
 -- the ways out of each plan
 
-module _ (w : List ℕ) (e : sound w ≡ true) (bytes : List ℕ) (n : ℕ) where
+module _ (w : List ℕ) (e : sound w ≡ true) {h : Header} (q : Read w h) (bytes : List ℕ) (n : ℕ) where
   -- 4
   module _ (v : validSerial bytes n ≡ false) where
-    pub enter-invalid : Plans (enterStep (decode w) bytes n .answer) (decode w) bytes n (refusal 4 0 0)
+    pub enter-invalid : Plans (enterStep (decode w) bytes n .answer) w bytes n (refusal h 4 0 0)
     unfolding enterStep
-    enter-invalid = plan-refused bytes n 3 0 0 (rw v)
+    enter-invalid = plan-refused q bytes n 3 0 0 (rw v)
 
-    pub file-invalid : (day code : ℕ) → Plans (fileStep (decode w) bytes n day code .answer) (decode w) bytes n (refusal 4 0 0)
+    pub file-invalid : (day code : ℕ) → Plans (fileStep (decode w) bytes n day code .answer) w bytes n (refusal h 4 0 0)
     unfolding fileStep
-    file-invalid day code = plan-refused bytes n 3 0 0 (rw v)
+    file-invalid day code = plan-refused q bytes n 3 0 0 (rw v)
 
-    pub pairs-invalid : (room : ℕ) → PlansFor (showStep (decode w) bytes n) room (decode w) bytes n (refusal 4 0 0)
+    pub pairs-invalid : (room : ℕ) → PlansFor (showStep (decode w) bytes n) room w bytes n (refusal h 4 0 0)
     unfolding showStep
-    pairs-invalid room = record { with-room = λ given l. plan-refused bytes n 3 0 0 (rw v) }
+    pairs-invalid room = record { with-room = λ given l. plan-refused q bytes n 3 0 0 (rw v) }
 
-    pub withdraw-invalid : (room : ℕ) → PlansFor (withdrawStep (decode w) bytes n) room (decode w) bytes n (refusal 4 0 0)
+    pub withdraw-invalid : (room : ℕ) → PlansFor (withdrawStep (decode w) bytes n) room w bytes n (refusal h 4 0 0)
     unfolding withdrawStep
-    withdraw-invalid room = record { with-room = λ given l. plan-refused bytes n 3 0 0 (rw v) }
+    withdraw-invalid room = record { with-room = λ given l. plan-refused q bytes n 3 0 0 (rw v) }
 
   module _ (v : validSerial bytes n ≡ true) where
     -- 5
-    pub file-bad : (day code : ℕ) → validFault day code ≡ false → Plans (fileStep (decode w) bytes n day code .answer) (decode w) bytes n (refusal 5 0 0)
+    pub file-bad : (day code : ℕ) → validFault day code ≡ false → Plans (fileStep (decode w) bytes n day code .answer) w bytes n (refusal h 5 0 0)
     unfolding fileStep
-    file-bad day code u = plan-refused bytes n 4 0 0 (rw (v, u))
+    file-bad day code u = plan-refused q bytes n 4 0 0 (rw (v, u))
 
     module _ {o : Spot} (f : Finds (decode w) (take n bytes) o) where
       -- no card has the serial
-      module _ (h : o .held ≡ false) where
+      module _ (z : o .held ≡ false) where
         none : length (found (take n bytes) (chainFor (decode w) (take n bytes))) ≡ 0
-        none = ap length (not-held (sound-is w e .0) (take n bytes) f h .absent .none)
+        none = ap length (not-held (sound-is w e .0) (take n bytes) f z .absent .none)
 
-        pub enter-full : held (decode w) ≡ decode w .shape .limit → Plans (enterStep (decode w) bytes n .answer) (decode w) bytes n (refusal 8 (o .place) 0)
+        pub enter-full : held (decode w) ≡ decode w .shape .limit → Plans (enterStep (decode w) bytes n .answer) w bytes n (refusal h 8 (o .place) 0)
         unfolding enterStep
-        enter-full k = plan-refused bytes n 7 (o .place) 0 (rw (v, none, f .place-is, eq-eqb (held (decode w)) (decode w .shape .limit) k))
+        enter-full k = plan-refused q bytes n 7 (o .place) 0 (rw (v, none, f .place-is, eq-eqb (held (decode w)) (decode w .shape .limit) k))
 
         pub enter-ahead : (held (decode w) ≡ decode w .shape .limit → ⊥)
-            → Plans (enterStep (decode w) bytes n .answer) (decode w) bytes n (ahead o (growScan (decode w) (o .bucket)) 0)
+            → Plans (enterStep (decode w) bytes n .answer) w bytes n (ahead h o (growScan (decode w) (o .bucket)) 0)
         unfolding enterStep
         enter-ahead k =
-            plan-ahead bytes n v f (growScan (decode w) (o .bucket)) 0
+            plan-ahead q bytes n v f (growScan (decode w) (o .bucket)) 0
             (rw (v, none, f .place-is, f .bucket-is, grow-scan (decode w) (sound-is w e .0 .fair) (take n bytes), ne-eqb (held (decode w)) (decode w .shape .limit) k))
 
-        pub file-missing : (day code : ℕ) → validFault day code ≡ true → Plans (fileStep (decode w) bytes n day code .answer) (decode w) bytes n (refusal 7 (o .place) 0)
+        pub file-missing : (day code : ℕ) → validFault day code ≡ true → Plans (fileStep (decode w) bytes n day code .answer) w bytes n (refusal h 7 (o .place) 0)
         unfolding fileStep
-        file-missing day code u = plan-refused bytes n 6 (o .place) 0 (rw (v, u, none, f .place-is))
+        file-missing day code u = plan-refused q bytes n 6 (o .place) 0 (rw (v, u, none, f .place-is))
 
-        pub pairs-missing : (room : ℕ) → PlansFor (showStep (decode w) bytes n) room (decode w) bytes n (refusal 7 (o .place) 0)
+        pub pairs-missing : (room : ℕ) → PlansFor (showStep (decode w) bytes n) room w bytes n (refusal h 7 (o .place) 0)
         unfolding showStep
-        pairs-missing room = record { with-room = λ given l. plan-refused bytes n 6 (o .place) 0 (rw (v, none, f .place-is)) }
+        pairs-missing room = record { with-room = λ given l. plan-refused q bytes n 6 (o .place) 0 (rw (v, none, f .place-is)) }
 
       -- one has it
-      module _ (h : o .held ≡ true) where
+      module _ (z : o .held ≡ true) where
         one : length (found (take n bytes) (chainFor (decode w) (take n bytes))) ≡ 1
-        one = ap length (is-held (sound-is w e .0) (take n bytes) f h .present .only)
+        one = ap length (is-held (sound-is w e .0) (take n bytes) f z .present .only)
 
-        pub enter-held : Plans (enterStep (decode w) bytes n .answer) (decode w) bytes n (refusal 6 (o .place) 0)
+        pub enter-held : Plans (enterStep (decode w) bytes n .answer) w bytes n (refusal h 6 (o .place) 0)
         unfolding enterStep
-        enter-held = plan-refused bytes n 5 (o .place) 0 (rw (v, one, f .place-is))
+        enter-held = plan-refused q bytes n 5 (o .place) 0 (rw (v, one, f .place-is))
 
         module _ (day code : ℕ) (u : validFault day code ≡ true) where
-          pub file-full : faultsHeld (decode w) ≡ decode w .shape .faultLimit → Plans (fileStep (decode w) bytes n day code .answer) (decode w) bytes n (refusal 9 (o .place) 0)
+          pub file-full : faultsHeld (decode w) ≡ decode w .shape .faultLimit → Plans (fileStep (decode w) bytes n day code .answer) w bytes n (refusal h 9 (o .place) 0)
           unfolding fileStep
-          file-full k = plan-refused bytes n 8 (o .place) 0 (rw (v, u, one, f .place-is, eq-eqb (faultsHeld (decode w)) (decode w .shape .faultLimit) k))
+          file-full k = plan-refused q bytes n 8 (o .place) 0 (rw (v, u, one, f .place-is, eq-eqb (faultsHeld (decode w)) (decode w .shape .faultLimit) k))
 
           pub file-ahead : (faultsHeld (decode w) ≡ decode w .shape .faultLimit → ⊥) → (count : ℕ) → count ≡ length (historyIn (decode w) (take n bytes))
-              → Plans (fileStep (decode w) bytes n day code .answer) (decode w) bytes n (ahead o 0 (count + 1))
+              → Plans (fileStep (decode w) bytes n day code .answer) w bytes n (ahead h o 0 (count + 1))
           unfolding fileStep
           file-ahead k count l =
-              plan-ahead bytes n v f 0 (count + 1) (rw (v, u, one, f .place-is, l, ne-eqb (faultsHeld (decode w)) (decode w .shape .faultLimit) k))
+              plan-ahead q bytes n v f 0 (count + 1) (rw (v, u, one, f .place-is, l, ne-eqb (faultsHeld (decode w)) (decode w .shape .faultLimit) k))
 
         module _ (room count : ℕ) (l : count ≡ length (historyIn (decode w) (take n bytes))) where
-          pub pairs-small : room < 2 * count → PlansFor (showStep (decode w) bytes n) room (decode w) bytes n (refusal 10 (o .place) count)
+          pub pairs-small : room < 2 * count → PlansFor (showStep (decode w) bytes n) room w bytes n (refusal h 10 (o .place) count)
           unfolding showStep
           pairs-small b =
-              record { with-room = λ given k. plan-refused bytes n 9 (o .place) count (rw (v, one, f .place-is, l, lt-ltb (length given) (2 * length (historyIn (decode w) (take n bytes))) (omega arith))) }
+              record { with-room = λ given k. plan-refused q bytes n 9 (o .place) count (rw (v, one, f .place-is, l, lt-ltb (length given) (2 * length (historyIn (decode w) (take n bytes))) (omega arith))) }
 
-          pub pairs-ahead : 2 * count ≤ room → PlansFor (showStep (decode w) bytes n) room (decode w) bytes n (ahead o 0 count)
+          pub pairs-ahead : 2 * count ≤ room → PlansFor (showStep (decode w) bytes n) room w bytes n (ahead h o 0 count)
           unfolding showStep
           pairs-ahead b =
-              record { with-room = λ given k. plan-ahead bytes n v f 0 count (rw (v, one, f .place-is, l, le-ltb (length given) (2 * length (historyIn (decode w) (take n bytes))) (omega arith))) }
+              record { with-room = λ given k. plan-ahead q bytes n v f 0 count (rw (v, one, f .place-is, l, le-ltb (length given) (2 * length (historyIn (decode w) (take n bytes))) (omega arith))) }
 
 -- Withdraw by the plan of Show
 module _ (s : Store) (bytes : List ℕ) (n : ℕ) (room : List ℕ) where
@@ -228,18 +229,18 @@ module _ (s : Store) (bytes : List ℕ) (n : ℕ) (room : List ℕ) where
       let (v, l, b) = show-numbers s bytes n room g .done .0 z in
       (rw (v, l, le-ltb (length room) (2 * length (historyIn s (take n bytes))) b), l)
 
-module _ (w : List ℕ) (e : sound w ≡ true) (bytes : List ℕ) (n room : ℕ) (r : Plan) (p : PlansFor (showStep (decode w) bytes n) room (decode w) bytes n r) where
-  pub withdraw-refused : (r .number ≡ 0 → ⊥) → PlansFor (withdrawStep (decode w) bytes n) room (decode w) bytes n r
+module _ (w : List ℕ) (e : sound w ≡ true) (bytes : List ℕ) (n room : ℕ) (r : Plan) (p : PlansFor (showStep (decode w) bytes n) room w bytes n r) where
+  pub withdraw-refused : (r .number ≡ 0 → ⊥) → PlansFor (withdrawStep (decode w) bytes n) room w bytes n r
   withdraw-refused z =
       record { with-room = λ given l. let q = p .with-room given l in rw (same-refused (decode w) bytes n given (λ k. z (q .answer .number-is ∙ k))) q }
 
-  pub withdraw-ahead : r .number ≡ 0 → (scan : ℕ) → scan ≡ shrinkScan (decode w) (r .bucket)
-      → PlansFor (withdrawStep (decode w) bytes n) room (decode w) bytes n
-      (record { number = 0; comparisons = r .comparisons; scanned = scan; faults = r .faults; bucket = r .bucket; cell = r .cell; prev = r .prev })
-  withdraw-ahead z scan k = record { with-room = λ given l. go given (p .with-room given l) }
+  pub withdraw-ahead : {h : Header} → Read w h → r .number ≡ 0 → (scan : ℕ) → scan ≡ shrinkScan (decode w) (r .bucket)
+      → PlansFor (withdrawStep (decode w) bytes n) room w bytes n
+      (record { number = 0; comparisons = r .comparisons; scanned = scan; faults = r .faults; bucket = r .bucket; cell = r .cell; prev = r .prev; header = h })
+  withdraw-ahead {h} kept z scan k = record { with-room = λ given l. go given (p .with-room given l) }
     where
-      go : (given : List ℕ) → Plans (showStep (decode w) bytes n given .answer) (decode w) bytes n r → Plans (withdrawStep (decode w) bytes n given .answer) (decode w) bytes n
-          (record { number = 0; comparisons = r .comparisons; scanned = scan; faults = r .faults; bucket = r .bucket; cell = r .cell; prev = r .prev })
+      go : (given : List ℕ) → Plans (showStep (decode w) bytes n given .answer) w bytes n r → Plans (withdrawStep (decode w) bytes n given .answer) w bytes n
+          (record { number = 0; comparisons = r .comparisons; scanned = scan; faults = r .faults; bucket = r .bucket; cell = r .cell; prev = r .prev; header = h })
       go given q =
           let d = same-done (decode w) bytes n given (sound-good w e .0) (sym (q .answer .number-is) ∙ z) in
           let o = q .places z in
@@ -250,5 +251,6 @@ module _ (w : List ℕ) (e : sound w ≡ true) (bytes : List ℕ) (n room : ℕ)
               scanned-is = k ∙ ap (shrinkScan (decode w)) (o .bucket-is) ∙ sym (shrink-scan (decode w) (sound-is w e .0 .fair) (take n bytes) (d .1));
               faults-are = q .answer .faults-are;
             };
+            header = kept;
             places = λ _. record { valid = o .valid; bucket-is = o .bucket-is; cell-is = o .cell-is; prev-is = o .prev-is };
           })

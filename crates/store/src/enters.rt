@@ -9,18 +9,17 @@ ghost use Rattle.store.specs.Plans.{Plans};
 use crate::Answer;
 use crate::plans;
 use crate::plans::Plan;
-use crate::search;
 use crate::table;
 use crate::writes;
 
 // Does what a plan of Enter says: the card takes a free cell behind the last one of the plan's bucket.
 pub fn make_enter(w: &mut [u32], serial: [u8; 16], len: usize, t: Plan)
-    requires { ⌜ (sound (now w) ≡ true) × Plans (enterStep (decode (now w)) serial len .answer) (decode (now w)) serial len t × (t .number ≡ 0) ⌝ }
+    requires { ⌜ (sound (now w) ≡ true) × Plans (enterStep (decode (now w)) serial len .answer) (now w) serial len t × (t .number ≡ 0) ⌝ }
     ensures { λ _. ⌜ now (w .exit) ≡ encode (enterStep (decode (now (w .entry))) serial len .store) ⌝ }
 {
-    let h = search::header_of(w);
+    let h = t.header;
     writes::place(w, h, t.bucket, t.prev, serial, len);
-    table::grow(w);
+    table::grow(w, h);
 }
 
 // Enter on a store known to be sound.

@@ -9,15 +9,14 @@ ghost use Rattle.store.specs.Plans.{fileWith, Ready, Follows};
 use crate::Answer;
 use crate::plans;
 use crate::plans::Plan;
-use crate::search;
 use crate::writes;
 
 // Does what a plan of File says: the fault goes behind the last one of the card in the plan's cell.
 pub fn make_file(w: &mut [u32], t: Plan, day: u32, code: u32)
-    requires { ⌜ (sound (now w) ≡ true) × Ready (fileWith (decode (now w)) day code) (decode (now w)) t ⌝ }
-    ensures { λ _. ⌜ Follows (fileWith (decode (now (w .entry))) day code) (decode (now (w .entry))) t (now (w .exit)) ⌝ }
+    requires { ⌜ (sound (now w) ≡ true) × Ready (fileWith (decode (now w)) day code) (now w) t ⌝ }
+    ensures { λ _. ⌜ Follows (fileWith (decode (now (w .entry))) day code) (now (w .entry)) t (now (w .exit)) ⌝ }
 {
-    let h = search::header_of(w);
+    let h = t.header;
     writes::file_at(w, h, t.cell, day, code);
 }
 

@@ -1,5 +1,5 @@
-// The plans of the four calls on a sound store: each reads the store and gives the call's whole answer, with the places that the change
-// will touch, before a word is changed.
+// The plans of the four calls on a sound store: each reads the header once, and gives the call's whole answer with the header and the
+// places that the change will touch, before a word is changed.
 ghost use mathlib.Core.Path.{_≡_};
 ghost use mathlib.Core.Bool.{true};
 ghost use Prim.Native.Nat.{_+_, _-_, _<_};
@@ -8,9 +8,10 @@ ghost use Rattle.model.specs.Serial.{validSerial};
 ghost use Rattle.model.specs.Model.{size, bucket};
 ghost use Rattle.model.specs.Layout.{follow, decode, sound};
 ghost use Rattle.model.specs.Meaning.{nextCard};
-ghost use Rattle.model.specs.Calls.{enterStep, fileStep, showStep, withdrawStep};
+ghost use Rattle.model.specs.Calls.{gives, enterStep, fileStep, showStep, withdrawStep};
 ghost use Rattle.store.specs.Cells.{shapeIn, Sized, Read};
 ghost use Rattle.store.specs.Search.{Ends};
+ghost use Rattle.store.specs.Leaves.{Gives};
 ghost use Rattle.store.specs.Plans.{growScan, shrinkScan, refusal, ahead, answered, Plans, PlansFor};
 use crate::Answer;
 use crate::cells;
@@ -20,8 +21,8 @@ use crate::search;
 use crate::search::Spot;
 use crate::serial;
 
-// A call's answer, and where its change takes place: the serial's bucket, the cell of its card (0 for a new one) and the cell before it (0
-// for none). The places are 0 where the number is not.
+// A call's answer, where its change takes place, and the header that both go by. The places: the serial's bucket, the cell of its card (0 for
+// a new one) and the cell before it (0 for none); all are 0 where the number is not.
 pub struct Plan {
     pub number: u32,
     pub comparisons: u32,
@@ -30,11 +31,12 @@ pub struct Plan {
     pub bucket: u32,
     pub cell: u32,
     pub prev: u32,
+    pub header: Header,
 }
 
 // A call that is refused.
-fn refused(number: u32, comparisons: u32, faults: u32) -> Plan
-    ensures { λ r. ⌜ r ≡ refusal number comparisons faults ⌝ }
+fn refused(h: Header, number: u32, comparisons: u32, faults: u32) -> Plan
+    ensures { λ r. ⌜ r ≡ refusal h number comparisons faults ⌝ }
 {
     Plan {
         number,
@@ -44,12 +46,22 @@ fn refused(number: u32, comparisons: u32, faults: u32) -> Plan
         bucket: 0,
         cell: 0,
         prev: 0,
+        header: h,
     }
 }
 
+// A line that asks nothing of any serial, refused on a store known to be sound.
+pub fn turned_down(w: &[u32], number: u32) -> Plan
+    requires { ⌜ sound (now w) ≡ true ⌝ }
+    ensures { λ r. ⌜ Gives (gives number 0 0 0) (answered r) × Read (now (w .entry)) (r .header) ⌝ }
+{
+    let h = search::header_of(w);
+    refused(h, number, 0, 0)
+}
+
 // A call that goes ahead where its serial was looked for.
-fn accepted(s: Spot, scanned: u32, faults: u32) -> Plan
-    ensures { λ r. ⌜ r ≡ ahead s scanned faults ⌝ }
+fn accepted(h: Header, s: Spot, scanned: u32, faults: u32) -> Plan
+    ensures { λ r. ⌜ r ≡ ahead h s scanned faults ⌝ }
 {
     Plan {
         number: 0,
@@ -59,6 +71,7 @@ fn accepted(s: Spot, scanned: u32, faults: u32) -> Plan
         bucket: s.bucket,
         cell: s.cell,
         prev: s.prev,
+        header: h,
     }
 }
 
@@ -143,83 +156,83 @@ fn shrink_scan(w: &[u32], h: Header, b: u32) -> u32
 // Enter: 4 for the serial, 6 where a card has it, 8 where no cell is free.
 pub fn plan_enter(w: &[u32], serial: [u8; 16], len: usize) -> Plan
     requires { ⌜ sound (now w) ≡ true ⌝ }
-    ensures { λ r. ⌜ Plans (enterStep (decode (now (w .entry))) serial len .answer) (decode (now (w .entry))) serial len r ⌝ }
+    ensures { λ r. ⌜ Plans (enterStep (decode (now (w .entry))) serial len .answer) (now (w .entry)) serial len r ⌝ }
 {
-    if !serial::valid_serial(serial, len) {
-        return refused(4, 0, 0);
-    }
     let h = search::header_of(w);
-    let s = search::find(w, h, serial, len);
+    if !serial::valid_serial(serial, len) {
+        return refused(h, 4, 0, 0);
+    }
+    let s = search::find(w, serial, len);
     if s.held {
-        return refused(6, s.place, 0);
+        return refused(h, 6, s.place, 0);
     }
     if cells::word(w, layout::HELD) == h.cards {
-        return refused(8, s.place, 0);
+        return refused(h, 8, s.place, 0);
     }
     let scanned = grow_scan(w, h, s.bucket);
-    accepted(s, scanned, 0)
+    accepted(h, s, scanned, 0)
 }
 
 // File: 4 for the serial, 5 for day and code, 7 where no card has the serial, 9 where no fault cell is free.
 pub fn plan_file(w: &[u32], serial: [u8; 16], len: usize, day: u32, code: u32) -> Plan
     requires { ⌜ sound (now w) ≡ true ⌝ }
-    ensures { λ r. ⌜ Plans (fileStep (decode (now (w .entry))) serial len day code .answer) (decode (now (w .entry))) serial len r ⌝ }
+    ensures { λ r. ⌜ Plans (fileStep (decode (now (w .entry))) serial len day code .answer) (now (w .entry)) serial len r ⌝ }
 {
+    let h = search::header_of(w);
     if !serial::valid_serial(serial, len) {
-        return refused(4, 0, 0);
+        return refused(h, 4, 0, 0);
     }
     if !serial::valid_fault(day, code) {
-        return refused(5, 0, 0);
+        return refused(h, 5, 0, 0);
     }
-    let h = search::header_of(w);
-    let s = search::find(w, h, serial, len);
+    let s = search::find(w, serial, len);
     if !s.held {
-        return refused(7, s.place, 0);
+        return refused(h, 7, s.place, 0);
     }
     if cells::word(w, layout::FAULTS_HELD) == h.faults {
-        return refused(9, s.place, 0);
+        return refused(h, 9, s.place, 0);
     }
     let n = cells::card_word(w, h, s.cell, layout::COUNT);
-    accepted(s, 0, n + 1)
+    accepted(h, s, 0, n + 1)
 }
 
 // Show and Withdraw of a valid serial: 7 where no card has it, 10 where its pairs do not fit.
 fn plan_pairs(w: &[u32], h: Header, serial: [u8; 16], len: usize, room: usize) -> Plan
     requires { ⌜ (sound (now w) ≡ true) × Read (now w) h × (validSerial serial len ≡ true) ⌝ }
-    ensures { λ r. ⌜ PlansFor (showStep (decode (now (w .entry))) serial len) room (decode (now (w .entry))) serial len r ⌝ }
+    ensures { λ r. ⌜ PlansFor (showStep (decode (now (w .entry))) serial len) room (now (w .entry)) serial len r ⌝ }
 {
-    let s = search::find(w, h, serial, len);
+    let s = search::find(w, serial, len);
     if !s.held {
-        return refused(7, s.place, 0);
+        return refused(h, 7, s.place, 0);
     }
     let n = cells::card_word(w, h, s.cell, layout::COUNT);
     if room < 2 * (n as usize) {
-        return refused(10, s.place, n);
+        return refused(h, 10, s.place, n);
     }
-    accepted(s, 0, n)
+    accepted(h, s, 0, n)
 }
 
 // Show, for a room of so many words: 4 for the serial, then 7 and 10.
 pub fn plan_show(w: &[u32], serial: [u8; 16], len: usize, room: usize) -> Plan
     requires { ⌜ sound (now w) ≡ true ⌝ }
-    ensures { λ r. ⌜ PlansFor (showStep (decode (now (w .entry))) serial len) room (decode (now (w .entry))) serial len r ⌝ }
+    ensures { λ r. ⌜ PlansFor (showStep (decode (now (w .entry))) serial len) room (now (w .entry)) serial len r ⌝ }
 {
-    if !serial::valid_serial(serial, len) {
-        return refused(4, 0, 0);
-    }
     let h = search::header_of(w);
+    if !serial::valid_serial(serial, len) {
+        return refused(h, 4, 0, 0);
+    }
     plan_pairs(w, h, serial, len, room)
 }
 
 // Withdraw: as Show, and what it will scan.
 pub fn plan_withdraw(w: &[u32], serial: [u8; 16], len: usize, room: usize) -> Plan
     requires { ⌜ sound (now w) ≡ true ⌝ }
-    ensures { λ r. ⌜ PlansFor (withdrawStep (decode (now (w .entry))) serial len) room (decode (now (w .entry))) serial len r ⌝ }
+    ensures { λ r. ⌜ PlansFor (withdrawStep (decode (now (w .entry))) serial len) room (now (w .entry)) serial len r ⌝ }
 {
-    if !serial::valid_serial(serial, len) {
-        return refused(4, 0, 0);
-    }
     let h = search::header_of(w);
+    if !serial::valid_serial(serial, len) {
+        return refused(h, 4, 0, 0);
+    }
     let t = plan_pairs(w, h, serial, len, room);
     if t.number != 0 {
         return t;
@@ -233,5 +246,6 @@ pub fn plan_withdraw(w: &[u32], serial: [u8; 16], len: usize, room: usize) -> Pl
         bucket: t.bucket,
         cell: t.cell,
         prev: t.prev,
+        header: h,
     }
 }

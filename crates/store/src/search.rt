@@ -87,11 +87,13 @@ pub fn header_of(w: &[u32]) -> Header
     front::header(w)
 }
 
-// Where the card of a serial stands in a sound store: its bucket by the serial's code, and the search of that bucket's chain.
-pub fn find(w: &[u32], h: Header, serial: [u8; 16], len: usize) -> Spot
-    requires { ⌜ (sound (now w) ≡ true) × Read (now w) h × (validSerial serial len ≡ true) ⌝ }
+// Where the card of a serial stands in a sound store: its bucket by the serial's code, and the search of that bucket's chain. It reads what
+// it needs of the header itself: handed over by value, all twelve numbers would be laid out in memory for each search.
+pub fn find(w: &[u32], serial: [u8; 16], len: usize) -> Spot
+    requires { ⌜ (sound (now w) ≡ true) × (validSerial serial len ≡ true) ⌝ }
     ensures { λ r. ⌜ Finds (decode (now (w .entry))) (take len serial) r ⌝ }
 {
+    let h = header_of(w);
     let code = rules::serial_code(serial, len);
     let b = rules::reader_address(code, h.maxp, h.p);
     let first = cells::word(w, h.segments + b as usize);

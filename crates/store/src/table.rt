@@ -7,12 +7,11 @@ ghost use Rattle.model.specs.Model.{grown, shrunk};
 ghost use Rattle.model.specs.Layout.{maxpAt, pAt, directoryAt, encode, decode};
 ghost use Rattle.model.specs.Meaning.{nextCard, bucketWord};
 ghost use Rattle.model.specs.Words.{openWords, closeWords, movesAt, partWords, splitWords, joinWords};
-ghost use Rattle.store.specs.Cells.{shapeIn, Sized};
+ghost use Rattle.store.specs.Cells.{shapeIn, Sized, Read};
 ghost use Rattle.store.specs.Search.{Ends};
 ghost use Rattle.store.specs.Table.{MaySplit, MayJoin, lastFrom, lastOf, Fairly};
 use crate::cells;
 use crate::cells::Header;
-use crate::front;
 use crate::layout;
 use crate::writes;
 
@@ -161,11 +160,10 @@ pub fn join(w: &mut [u32], h: Header)
 }
 
 // After an accepted entry: one bucket more if there are more than `upper` cards a bucket.
-pub fn grow(w: &mut [u32])
-    requires { ⌜ Fairly (now w) ⌝ }
+pub fn grow(w: &mut [u32], h: Header)
+    requires { ⌜ Fairly (now w) × Read (now w) h ⌝ }
     ensures { λ _. ⌜ now (w .exit) ≡ encode (grown (decode (now (w .entry)))) ⌝ }
 {
-    let h = front::header(w);
     let n = cells::word(w, layout::HELD);
     if rules::must_split(h.top, h.upper, n, h.maxp + h.p) {
         split(w, h);
@@ -173,11 +171,10 @@ pub fn grow(w: &mut [u32])
 }
 
 // After an accepted withdrawal: one bucket less if there are fewer than `lower` cards a bucket, and more than 16 buckets.
-pub fn shrink(w: &mut [u32])
-    requires { ⌜ Fairly (now w) ⌝ }
+pub fn shrink(w: &mut [u32], h: Header)
+    requires { ⌜ Fairly (now w) × Read (now w) h ⌝ }
     ensures { λ _. ⌜ now (w .exit) ≡ encode (shrunk (decode (now (w .entry)))) ⌝ }
 {
-    let h = front::header(w);
     let n = cells::word(w, layout::HELD);
     if rules::must_contract(h.lower, n, h.maxp + h.p) {
         join(w, h);

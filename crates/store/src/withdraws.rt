@@ -9,19 +9,18 @@ ghost use Rattle.store.specs.Plans.{Ready, Follows};
 use crate::Answer;
 use crate::plans;
 use crate::plans::Plan;
-use crate::search;
 use crate::shows;
 use crate::table;
 use crate::writes;
 
 // Does what a plan of Withdraw says: the card in the plan's cell is taken out, and its cell and its fault cells are free.
 pub fn make_withdraw(w: &mut [u32], t: Plan)
-    requires { ⌜ (sound (now w) ≡ true) × Ready (withdrawStep (decode (now w))) (decode (now w)) t ⌝ }
-    ensures { λ _. ⌜ Follows (withdrawStep (decode (now (w .entry)))) (decode (now (w .entry))) t (now (w .exit)) ⌝ }
+    requires { ⌜ (sound (now w) ≡ true) × Ready (withdrawStep (decode (now w))) (now w) t ⌝ }
+    ensures { λ _. ⌜ Follows (withdrawStep (decode (now (w .entry)))) (now (w .entry)) t (now (w .exit)) ⌝ }
 {
-    let h = search::header_of(w);
+    let h = t.header;
     writes::remove_at(w, h, t.bucket, t.prev, t.cell);
-    table::shrink(w);
+    table::shrink(w, h);
 }
 
 // Withdraw on a store known to be sound: the pairs are written while the card is still there.

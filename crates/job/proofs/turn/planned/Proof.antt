@@ -1,6 +1,5 @@
 -- `turn::planned` meets its contract: the plan of each kind is that of the step that the kind asks.
 use borrow.Author.Needs.{needs}
-use mathlib.Core.Path.{refl}
 use native.Mathlib.Omega.{arith}
 use Rattle.model.proofs.Jobs.{enough-long}
 use Rattle.job.proofs.Asking.{asked-enter, asked-withdraw, asked-file, asked-show, asked-bad}
@@ -23,15 +22,16 @@ returns-4 c = let a = c .before .before .before .before .args in rw (asked-show 
 
 returns-5 : tie.Need-returns-5
 returns-5 c =
-    let r = c .match .rest in
-    let a = c .before .before .before .args in
-    rw (asked-bad (decode (a .words .now)) (a .p) (r .0 .0 .0 .1) (r .0 .0 .1) (r .0 .1) (r .1))
-    (record { answer = record { number-is = refl; comparisons-are = refl; scanned-is = refl; faults-are = refl }; places = λ e. absurd (omega arith) })
+    let r = c .before .match .rest in
+    let a = c .before .before .before .before .args in
+    let t = c .turned-down .ensures in
+    rw (asked-bad (decode (a .words .now)) (a .p) (r .0 .0 .0 .1) (r .0 .0 .1) (r .0 .1) (r .1)) (record { answer = t .0; header = t .1; places = λ z. absurd (omega (arith, t .0 .number-is)) })
 
 pub planned-spec : {M : Type 1} → statement M
 planned-spec =
     tie.close
     (tie.spec
+    (λ c κs. search needs)
     (λ c κs. search needs)
     (λ c κs. search needs)
     (λ c κs. search needs)

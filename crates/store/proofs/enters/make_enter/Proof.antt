@@ -2,36 +2,35 @@
 -- and once grown they are those of the step.
 use borrow.Author.Needs.{needs}
 use Rattle.store.proofs.GrowLaws.{rep-fairly}
-use Rattle.store.proofs.MakeLaws.{may-place, rep-place, made-enter}
+use Rattle.store.proofs.MakeLaws.{may-place, rep-place, read-place, made-enter}
 use Rattle.store.proofs.enters.make_enter.Statement.{statement}
 use Rattle.store.proofs.enters.make_enter.Tie as tie
 
 abbrev start : tie.After-place → tie.Start
-start c = c .before .before .before .before .before
+start c = c .before .before .before .before
 
 place-requires : tie.Need-place-requires
 place-requires c κs =
-    let p = c .before .before .before .before .pre in
-    (may-place _ (p .0) _ _ (p .1) (p .2) (c .before .header-of .ensures), p .1 .places (p .2) .valid)
+    let p = c .before .before .before .pre in
+    (may-place _ (p .0) _ _ (p .1) (p .2), p .1 .places (p .2) .valid)
 
 grow-requires : tie.Need-grow-requires
 grow-requires c κs =
     let k = c .before .before .before in
     let p = start k .pre in
-    rep-fairly (rep-place _ (p .0) _ _ (p .1) (p .2) (k .before .before .header-of .ensures) (k .place .ensures))
+    (rep-fairly (rep-place _ (p .0) _ _ (p .1) (p .2) (k .place .ensures)), read-place _ (p .0) _ _ (p .1) (p .2) (k .place .ensures))
 
 returns : tie.Need-returns
 returns c =
     let g = c .before .before in
     let k = g .before .before .before .before in
     let p = start k .pre in
-    made-enter _ (p .0) _ _ (p .1) (p .2) (k .before .before .header-of .ensures) (k .place .ensures) (g .grow .ensures)
+    made-enter _ (p .0) _ _ (p .1) (p .2) (k .place .ensures) (g .grow .ensures)
 
 pub make-enter-spec : {M : Type 1} → statement M
 make-enter-spec =
     tie.close
     (tie.spec
-    (λ c κs. search needs)
     place-requires
     grow-requires
     (λ c. search needs)

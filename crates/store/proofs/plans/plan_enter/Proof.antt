@@ -11,44 +11,48 @@ use Rattle.store.proofs.plans.plan_enter.Statement.{statement}
 use Rattle.store.proofs.plans.plan_enter.Tie as tie
 
 abbrev start : tie.After-valid-serial → tie.Start
-start c = c .before .before
+start c = c .before .before .before
+
+-- the header as it was read
+abbrev read : tie.After-valid-serial → tie.After-header-of
+read c = c .before
 
 returns : tie.Need-returns
 returns c =
     let i = c .before .before in
-    rw (c .refused .ensures) (enter-invalid _ (start i .pre) _ _ (sym (i .valid-serial .ensures) ∙ not-true (i .valid-serial .result) (c .before .if1 .taken)))
+    rw (c .refused .ensures) (enter-invalid _ (start i .pre) (read i .header-of .ensures) _ _ (sym (i .valid-serial .ensures) ∙ not-true (i .valid-serial .result) (c .before .if1 .taken)))
 
 -- the serial is valid past the first test
 valid : (c : tie.Else1) → validSerial (start (c .before) .args .serial) (start (c .before) .args .len) ≡ true
 valid c = sym (c .before .valid-serial .ensures) ∙ not-false (c .before .valid-serial .result) (c .if1 .left)
 
 find-requires : tie.Need-find-requires
-find-requires c κs = (start (c .before .before) .pre, c .header-of .ensures, valid (c .before))
+find-requires c κs = (start (c .before) .pre, valid c)
 
 returns-2 : tie.Need-returns-2
 returns-2 c =
     let f = c .before .before in
-    let i = f .before .before in
-    rw (c .refused2 .ensures) (enter-held _ (start (i .before) .pre) _ _ (valid i) (f .find .ensures) (c .before .if2 .taken))
+    let i = f .before in
+    rw (c .refused2 .ensures) (enter-held _ (start (i .before) .pre) (read (i .before) .header-of .ensures) _ _ (valid i) (f .find .ensures) (c .before .if2 .taken))
 
 returns-3 : tie.Need-returns-3
 returns-3 c =
     let g = c .before .before .before in
     let f = g .before .before in
-    let i = f .before .before in
-    let r = f .before .header-of .ensures in
+    let i = f .before in
+    let r = read (i .before) .header-of .ensures in
     rw (c .refused3 .ensures)
-    (enter-full _ (start (i .before) .pre) _ _ (valid i) (f .find .ensures) (g .before .if2 .left)
+    (enter-full _ (start (i .before) .pre) r _ _ (valid i) (f .find .ensures) (g .before .if2 .left)
     (sym (held-word (start (i .before) .pre) r) ∙ sym (g .word .ensures) ∙ c .before .if3 .taken ∙ sym (ap (λ (sh : Shape). sh .limit) (read-store r .0))))
 
 returns-4 : tie.Need-returns-4
 returns-4 c =
     let g = c .before .before .before .before in
     let f = g .before .before in
-    let i = f .before .before in
-    let r = f .before .header-of .ensures in
+    let i = f .before in
+    let r = read (i .before) .header-of .ensures in
     rw (c .accepted .ensures, c .before .grow-scan .ensures)
-    (enter-ahead _ (start (i .before) .pre) _ _ (valid i) (f .find .ensures) (g .before .if2 .left)
+    (enter-ahead _ (start (i .before) .pre) r _ _ (valid i) (f .find .ensures) (g .before .if2 .left)
     (λ k. c .before .before .if3 .left (g .word .ensures ∙ held-word (start (i .before) .pre) r ∙ k ∙ ap (λ (sh : Shape). sh .limit) (read-store r .0))))
 
 pub plan-enter-spec : {M : Type 1} → statement M
@@ -57,8 +61,8 @@ plan-enter-spec =
     (tie.spec
     (λ c κs. search needs)
     (λ c κs. search needs)
-    returns
     (λ c κs. search needs)
+    returns
     find-requires
     (λ c κs. search needs)
     returns-2

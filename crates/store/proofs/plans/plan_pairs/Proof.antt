@@ -20,7 +20,7 @@ returns : tie.Need-returns
 returns c =
     let f = c .before .before .before in
     let p = start f .pre in
-    rw (c .refused .ensures) (pairs-missing _ (p .0) _ _ (p .2) (f .find .ensures) (not-true (f .find .result .held) (c .before .if1 .taken)) _)
+    rw (c .refused .ensures) (pairs-missing _ (p .0) (p .1) _ _ (p .2) (f .find .ensures) (not-true (f .find .result .held) (c .before .if1 .taken)) _)
 
 -- past the first test the card is held
 abbrev looked : tie.Else1 → tie.After-find
@@ -45,13 +45,13 @@ returns-2 : tie.Need-returns-2
 returns-2 c =
     let g = c .before .before in
     let p = start (looked (g .before)) .pre in
-    rw (c .refused2 .ensures) (pairs-small _ (p .0) _ _ (p .2) (looked (g .before) .find .ensures) (held (g .before)) _ _ (count g) (c .before .if2 .taken))
+    rw (c .refused2 .ensures) (pairs-small _ (p .0) (p .1) _ _ (p .2) (looked (g .before) .find .ensures) (held (g .before)) _ _ (count g) (c .before .if2 .taken))
 
 returns-3 : tie.Need-returns-3
 returns-3 c =
     let g = c .before .before in
     let p = start (looked (g .before)) .pre in
-    rw (c .accepted .ensures) (pairs-ahead _ (p .0) _ _ (p .2) (looked (g .before) .find .ensures) (held (g .before)) _ _ (count g) (c .before .if2 .left))
+    rw (c .accepted .ensures) (pairs-ahead _ (p .0) (p .1) _ _ (p .2) (looked (g .before) .find .ensures) (held (g .before)) _ _ (count g) (c .before .if2 .left))
 
 pub plan-pairs-spec : {M : Type 1} → statement M
 plan-pairs-spec =

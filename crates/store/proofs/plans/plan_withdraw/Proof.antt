@@ -7,27 +7,27 @@ use Rattle.store.proofs.plans.plan_withdraw.Statement.{statement}
 use Rattle.store.proofs.plans.plan_withdraw.Tie as tie
 
 abbrev start : tie.After-valid-serial → tie.Start
-start c = c .before .before
+start c = c .before .before .before
 
 returns : tie.Need-returns
 returns c =
     let i = c .before .before in
-    rw (c .refused .ensures) (withdraw-invalid _ (start i .pre) _ _ (sym (i .valid-serial .ensures) ∙ not-true (i .valid-serial .result) (c .before .if1 .taken)) _)
+    rw (c .refused .ensures) (withdraw-invalid _ (start i .pre) (i .before .header-of .ensures) _ _ (sym (i .valid-serial .ensures) ∙ not-true (i .valid-serial .result) (c .before .if1 .taken)) _)
 
 plan-pairs-requires : tie.Need-plan-pairs-requires
 plan-pairs-requires c κs =
-    let i = c .before .before in
-    (start i .pre, c .header-of .ensures, sym (i .valid-serial .ensures) ∙ not-false (i .valid-serial .result) (c .before .if1 .left))
+    let i = c .before in
+    (start i .pre, i .before .header-of .ensures, sym (i .valid-serial .ensures) ∙ not-false (i .valid-serial .result) (c .if1 .left))
 
 returns-2 : tie.Need-returns-2
 returns-2 c =
     let q = c .before .before in
-    withdraw-refused _ (start (q .before .before .before) .pre) _ _ _ _ (q .plan-pairs .ensures) (c .if2 .taken)
+    withdraw-refused _ (start (q .before .before) .pre) _ _ _ _ (q .plan-pairs .ensures) (c .if2 .taken)
 
 returns-3 : tie.Need-returns-3
 returns-3 c =
     let q = c .before .before .before in
-    withdraw-ahead _ (start (q .before .before .before) .pre) _ _ _ _ (q .plan-pairs .ensures) (c .before .if2 .left) _ (c .shrink-scan .ensures)
+    withdraw-ahead _ (start (q .before .before) .pre) _ _ _ _ (q .plan-pairs .ensures) (q .before .before .before .header-of .ensures) (c .before .if2 .left) _ (c .shrink-scan .ensures)
 
 pub plan-withdraw-spec : {M : Type 1} → statement M
 plan-withdraw-spec =
@@ -35,8 +35,8 @@ plan-withdraw-spec =
     (tie.spec
     (λ c κs. search needs)
     (λ c κs. search needs)
-    returns
     (λ c κs. search needs)
+    returns
     plan-pairs-requires
     returns-2
     (λ c κs. search needs)

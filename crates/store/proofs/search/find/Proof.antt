@@ -9,34 +9,47 @@ use Rattle.store.proofs.FindLaws.{valid-short, sound-home, home-below, 
 use Rattle.store.proofs.search.find.Statement.{statement}
 use Rattle.store.proofs.search.find.Tie as tie
 
-home : (c : tie.After-reader-address) → c .reader-address .result ≡ addressIn (decode (c .before .before .before .args .w .now)) (take (c .before .before .before .args .len) (c .before .before .before .args .serial))
+-- the start, and the header as it was read
+abbrev start : tie.After-header-of → tie.Start
+start c = c .before .before
+
+abbrev read : tie.After-reader-address → tie.After-header-of
+read c = c .before .before
+
+home : (c : tie.After-reader-address) → c .reader-address .result ≡ addressIn (decode (start (read c) .args .w .now)) (take (start (read c) .args .len) (start (read c) .args .serial))
 home c =
-    let a = c .before .before .before in
-    sound-home _ (a .pre .0) (a .pre .1) (a .args .serial) (a .args .len) (c .before .serial-code .ensures) (c .reader-address .ensures)
+    let a = start (read c) in
+    sound-home _ (a .pre .0) (read c .header-of .ensures) (a .args .serial) (a .args .len) (c .before .serial-code .ensures) (c .reader-address .ensures)
 
 word-requires : tie.Need-word-requires
 word-requires c κs =
-    let a = c .before .before .before .before in
-    omega (arith, home-below _ (a .pre .0) (a .pre .1) (a .args .serial) (a .args .len) (home (c .before)), a .pre .1 .sized .room)
+    let h = read (c .before) in
+    let a = start h in
+    omega (arith, home-below _ (a .pre .0) (h .header-of .ensures) (a .args .serial) (a .args .len) (home (c .before)), h .header-of .ensures .sized .room)
 
 cast-search : tie.Need-cast-search
-cast-search c = let a = c .before .before .before .before .before .before in omega (arith, valid-short (a .args .serial) (a .args .len) (a .pre .2))
+cast-search c = let a = start (read (c .before .before .before)) in omega (arith, valid-short (a .args .serial) (a .args .len) (a .pre .1))
 
 search-requires : tie.Need-search-requires
 search-requires c κs =
-    let a = c .before .before .before .before .before .before in
-    (a .pre .1 .sized, rw (c .before .word .ensures, a .pre .1 .sized .segments) (home-ends _ (a .pre .0) (a .pre .1) (a .args .serial) (a .args .len) (home (c .before .before .before))))
+    let h = read (c .before .before .before) in
+    let a = start h in
+    let q = h .header-of .ensures in
+    (q .sized, rw (c .before .word .ensures, q .sized .segments) (home-ends _ (a .pre .0) q (a .args .serial) (a .args .len) (home (c .before .before .before))))
 
 returns : tie.Need-returns
 returns c =
-    let a = c .before .before .before .before .before .before .before in
-    home-finds _ (a .pre .0) (a .pre .1) (a .args .serial) (a .args .len) (home (c .before .before .before .before)) (a .pre .2) _
-    (rw (← (a .pre .1 .sized .segments), ← (c .before .before .word .ensures), ← (c .before .pack .ensures)) (c .search .ensures))
+    let h = read (c .before .before .before .before) in
+    let a = start h in
+    let q = h .header-of .ensures in
+    home-finds _ (a .pre .0) q (a .args .serial) (a .args .len) (home (c .before .before .before .before)) (a .pre .1) _
+    (rw (← (q .sized .segments), ← (c .before .before .word .ensures), ← (c .before .pack .ensures)) (c .search .ensures))
 
 pub find-spec : {M : Type 1} → statement M
 find-spec =
     tie.close
     (tie.spec
+    (λ c κs. search needs)
     (λ c κs. search needs)
     (λ c κs. search needs)
     (λ c. search needs)

@@ -15,7 +15,7 @@ start c = c .before .before .before .before
 
 -- the plan is one for the room that was given
 plan : (c : tie.After-plan-withdraw) → Plans (withdrawStep (decode (start c .args .w .now)) (start c .args .serial) (start c .args .len) (start c .args .room .now) .answer)
-    (decode (start c .args .w .now)) (start c .args .serial) (start c .args .len) (c .plan-withdraw .result)
+    (start c .args .w .now) (start c .args .serial) (start c .args .len) (c .plan-withdraw .result)
 plan c = c .plan-withdraw .ensures .with-room (start c .args .room .now) refl
 
 returns : tie.Need-returns
