@@ -13,6 +13,7 @@ use Rattle.model.specs.Lists.{all, from}
 use Rattle.model.specs.Serial.{serialOk}
 use Rattle.model.specs.Shape.{Shape, entries, topOf}
 use Rattle.model.specs.Model.{Store, Card, Fault, cards, size, bucket, cellsOf, faultCellsOf}
+use Rattle.model.specs.Layout.{formatAt, limitAt, faultLimitAt, maxpAt, pAt, freeAt, freeFaultsAt, boundsAt, toNext, toLength, toSerial, toFirst, toDay, toCode}
 use Rattle.model.specs.Layout.{Cell, headOr, chained, cellAt, atsOf, cardWidth, faultWidth, segmentsAt, cardCell, faultCell, freeCell, cardChains, faultChains, cardsAt, faultsAt, header, directory, segments, front, first, follow, cardWord, faultWord, readFault, readCard, readChain, shapeOf, decodeAs, decode, goodCard}
 use Rattle.model.proofs.Lists.{Every, every-join, at-every, every-map}
 use Rattle.model.proofs.Tables.{table-is}
@@ -75,18 +76,18 @@ segment-past s b r h t =
     ∙ getD-replicate (topOf (s .shape) - size s) (b - size s) 0 0 (omega arith)
 
 module _ (w : List ℕ) (s : Store) (r : Rep w s) where
-  pub limit-at : getD w 1 0 ≡ s .shape .limit
+  pub limit-at : getD w limitAt 0 ≡ s .shape .limit
   unfolding front header
-  limit-at = rep-head r 1 (lit< tt)
+  limit-at = rep-head r limitAt (lit< tt)
 
-  pub fault-limit-at : getD w 2 0 ≡ s .shape .faultLimit
+  pub fault-limit-at : getD w faultLimitAt 0 ≡ s .shape .faultLimit
   unfolding front header
-  fault-limit-at = rep-head r 2 (lit< tt)
+  fault-limit-at = rep-head r faultLimitAt (lit< tt)
 
   -- the shape
   pub shape-at : shapeOf w ≡ s .shape
   unfolding front header
-  shape-at = shape-read w (s .shape) (r .fair .shape) (rep-head r 0 (lit< tt)) limit-at fault-limit-at (rep-head r 14 (lit< tt))
+  shape-at = shape-read w (s .shape) (r .fair .shape) (rep-head r formatAt (lit< tt)) limit-at fault-limit-at (rep-head r boundsAt (lit< tt))
 
   -- faults
 
@@ -94,13 +95,13 @@ module _ (w : List ℕ) (s : Store) (r : Rep w s) where
   unfolding faultCell readFault faultWord
   read-faults t [] q = refl
   read-faults t (f ∷ fs) q =
-      let d : faultWord (s .shape) w (f .at) 1 ≡ f .day = q .0 1 (lit< tt) in
-      let c : faultWord (s .shape) w (f .at) 2 ≡ f .code = q .0 2 (lit< tt) in
+      let d : faultWord (s .shape) w (f .at) toDay ≡ f .day = q .0 toDay (lit< tt) in
+      let c : faultWord (s .shape) w (f .at) toCode ≡ f .code = q .0 toCode (lit< tt) in
       λ i. record { at = f .at; day = d i; code = c i } ∷ read-faults t fs (q .1) i
 
   -- the history of a card
   Filed : List Cell → Type 0
-  Filed ch = Stand (cellIn w (faultsAt (s .shape)) faultWidth) faultWidth (chained 0 ch) × (follow (s .shape .faultLimit) (λ k. faultWord (s .shape) w k 0) (headOr 0 ch) ≡ atsOf ch)
+  Filed ch = Stand (cellIn w (faultsAt (s .shape)) faultWidth) faultWidth (chained 0 ch) × (follow (s .shape .faultLimit) (λ k. faultWord (s .shape) w k toNext) (headOr 0 ch) ≡ atsOf ch)
 
   filed-at : (j : ℕ) → Filed (getD (faultChains s) j [])
   unfolding Filed faultWord
@@ -117,9 +118,9 @@ module _ (w : List ℕ) (s : Store) (r : Rep w s) where
       → Stands (cellIn w (cardsAt (s .shape)) (cardWidth (s .shape))) (cardWidth (s .shape)) (record { at = c .at; words = t ∷ cardCell c .words }) → readCard (s .shape) w (c .at) ≡ c
   unfolding cardCell readCard cardWord Filed
   read-card t c v f q =
-      let e : take (cardWord (s .shape) w (c .at) 1) _ ≡ c .serial = serial-read _ _ _ _ _ (c .serial) v (q 1 (in-card (s .shape) (lit< tt))) (q 2 (in-card (s .shape) (lit< tt))) (q 3 (in-card (s .shape) (lit< tt))) (q 4 (in-card (s .shape) (lit< tt))) (q 5 (in-card (s .shape) (lit< tt))) in
-      let g : map (readFault (s .shape) w) (follow (s .shape .faultLimit) (λ k. faultWord (s .shape) w k 0) (cardWord (s .shape) w (c .at) 6)) ≡ c .faults =
-      ap (λ (h : ℕ). map (readFault (s .shape) w) (follow (s .shape .faultLimit) (λ k. faultWord (s .shape) w k 0) h)) (q 6 (in-card (s .shape) (lit< tt)) ∙ head-faults (c .faults))
+      let e : take (cardWord (s .shape) w (c .at) toLength) _ ≡ c .serial = serial-read _ _ _ _ _ (c .serial) v (q toLength (in-card (s .shape) (lit< tt))) (q toSerial (in-card (s .shape) (lit< tt))) (q (toSerial + 1) (in-card (s .shape) (lit< tt))) (q (toSerial + 2) (in-card (s .shape) (lit< tt))) (q (toSerial + 3) (in-card (s .shape) (lit< tt))) in
+      let g : map (readFault (s .shape) w) (follow (s .shape .faultLimit) (λ k. faultWord (s .shape) w k toNext) (cardWord (s .shape) w (c .at) toFirst)) ≡ c .faults =
+      ap (λ (h : ℕ). map (readFault (s .shape) w) (follow (s .shape .faultLimit) (λ k. faultWord (s .shape) w k toNext) h)) (q toFirst (in-card (s .shape) (lit< tt)) ∙ head-faults (c .faults))
       ∙ ap (map (readFault (s .shape) w)) (f .1) ∙ read-faults 0 (c .faults) (f .0) in
       λ i. record { at = c .at; serial = e i; faults = g i }
 
@@ -142,7 +143,7 @@ module _ (w : List ℕ) (s : Store) (r : Rep w s) where
       let head : getD w (segmentsAt (s .shape) + b) 0 ≡ headOr 0 (getD (cardChains s) (suc b) []) =
       rep-front r (segmentsAt (s .shape) + b) (omega (arith, r .fair .number, size-top s (r .fair))) ∙ segment-at s b h ∙ ap (headOr 0) (sym (cards-at b)) in
       let cells = held-follow w (cardsAt (s .shape)) (cardWidth (s .shape)) (s .shape .limit) (cardChains s) (in-card (s .shape) (lit< tt)) (r .fair .cells) (r .cards) (suc b) in
-      ap (map (readCard (s .shape) w)) (ap (follow (s .shape .limit) (λ k. cardWord (s .shape) w k 0)) head ∙ cells ∙ ap atsOf (cards-at b))
+      ap (map (readCard (s .shape) w)) (ap (follow (s .shape .limit) (λ k. cardWord (s .shape) w k toNext)) head ∙ cells ∙ ap atsOf (cards-at b))
       ∙ read-cards (s .maxp) (s .p) b 0 (bucket s b) (r .fair .addressed b)
       (every-join (λ c. Filed (map faultCell (c .faults))) (s .buckets) filed-all b)
       (subst (λ (l : List Cell). Stand (cellIn w (cardsAt (s .shape)) (cardWidth (s .shape))) (cardWidth (s .shape)) (chained 0 l)) (cards-at b) (r .cards (suc b)))
@@ -150,12 +151,12 @@ module _ (w : List ℕ) (s : Store) (r : Rep w s) where
   pub rep-decode-as : decodeAs (s .shape) w ≡ s
   unfolding decodeAs cardWord faultWord front header Filed cardsAt
   rep-decode-as =
-      let m = rep-head r 3 (lit< tt) in
-      let p = rep-head r 4 (lit< tt) in
+      let m = rep-head r maxpAt (lit< tt) in
+      let p = rep-head r pAt (lit< tt) in
       let bs = ap (λ (n : ℕ). map (readChain (s .shape) w) (from 0 n)) (λ i. m i + p i) ∙ table-is (readChain (s .shape) w) (size s) [] (s .buckets) (r .fair .number) (λ b h. read-chain b (omega (arith, r .fair .number))) in
-      let fc = ap (follow (s .shape .limit) (λ k. cardWord (s .shape) w k 0)) (rep-head r 7 (lit< tt) ∙ head-free (cardWidth (s .shape)) (s .free))
+      let fc = ap (follow (s .shape .limit) (λ k. cardWord (s .shape) w k toNext)) (rep-head r freeAt (lit< tt) ∙ head-free (cardWidth (s .shape)) (s .free))
       ∙ held-follow w (cardsAt (s .shape)) (cardWidth (s .shape)) (s .shape .limit) (cardChains s) (in-card (s .shape) (lit< tt)) (r .fair .cells) (r .cards) 0 ∙ ats-free (cardWidth (s .shape)) (s .free) in
-      let ff = ap (follow (s .shape .faultLimit) (λ k. faultWord (s .shape) w k 0)) (rep-head r 8 (lit< tt) ∙ head-free faultWidth (s .freeFaults)) ∙ filed-at 0 .1 ∙ ats-free faultWidth (s .freeFaults) in
+      let ff = ap (follow (s .shape .faultLimit) (λ k. faultWord (s .shape) w k toNext)) (rep-head r freeFaultsAt (lit< tt) ∙ head-free faultWidth (s .freeFaults)) ∙ filed-at 0 .1 ∙ ats-free faultWidth (s .freeFaults) in
       λ i. record { shape = s .shape; maxp = m i; p = p i; buckets = bs i; free = fc i; freeFaults = ff i }
 
   pub rep-decode : decode w ≡ s

@@ -5,7 +5,7 @@ use mathlib.Core.Path.{_≡_, refl, sym, ap, _∙_, subst}
 use mathlib.Core.Logic.{_⊎_, inl, inr}
 use mathlib.Core.List.{List, [], _∷_, _++_, map}
 use mathlib.Core.Bool.{true, cond}
-use Prim.Native.Nat.{ℕ, suc, _+_, _≤_, _<_}
+use Prim.Native.Nat.{ℕ, suc, _+_, _-_, _≤_, _<_}
 use native.Mathlib.Omega.{arith}
 use lib.Dec.{eqb, lit<}
 use lib.ListN.{length, set, take, drop, length-set, length-map, length-append}
@@ -14,6 +14,7 @@ use borrow.Author.Tests.{ne-eqb}
 use Rattle.model.specs.Lists.{join}
 use Rattle.model.specs.Serial.{validFault}
 use Rattle.model.specs.Model.{Store, Card, Fault, cards, held, faultsHeld, addressIn, chainFor, before, cellsOf, faultCellsOf, newFault, withFault, filed}
+use Rattle.model.specs.Layout.{faultsHeldAt, freeFaultsAt, toNext, toFirst, toLast, toCount}
 use Rattle.model.specs.Layout.{Cell, cardWidth, faultWidth, cardsAt, faultsAt, cardCell, faultCell, freeCell, cardChains, faultChains, header, directory, segments, front, first, last, packed, faultWord}
 use Rattle.model.specs.Words.{cardAt, faultAt, fileWords}
 use Rattle.model.proofs.Lists.{map-append, map-set}
@@ -98,10 +99,10 @@ module _ (w : List ℕ) (s : Store) (r : Rep w s) (y : List ℕ) (day code : ℕ
 
   -- the cell is taken and filled
   taken : List ℕ
-  taken = set w 8 (first later)
+  taken = set w freeFaultsAt (first later)
 
   filled : List ℕ
-  filled = sets taken (faultAt (s .shape) new 0) (0 ∷ day ∷ code ∷ [])
+  filled = sets taken (faultAt (s .shape) new toNext) (0 ∷ day ∷ code ∷ [])
 
   abbrev fronts : ℕ → List ℕ
   fronts k = fronted (s .shape) (s .maxp) (s .p) (held s) k (first (s .free)) (first later) (directory s) (segments s)
@@ -112,7 +113,7 @@ module _ (w : List ℕ) (s : Store) (r : Rep w s) (y : List ℕ) (day code : ℕ
       front-write w (s .shape) (front s) (cardChains s) (map (freeCell faultWidth) later ∷ records)
       (fault-chain w (s .shape) (front s) (cardChains s) (faultChains s) (rep-whole r) 0 (map (freeCell faultWidth) later) (omega arith)
       (taken-apart w (faultsAt (s .shape)) faultWidth (s .shape .faultLimit) (s .freeFaults) records (lit< tt) some (r .fair .faultCells) (r .faults))
-      (taken-rest w (faultsAt (s .shape)) faultWidth (s .shape .faultLimit) (s .freeFaults) records (lit< tt) some (r .fair .faultCells) (r .faults))) 8 (first later) (omega arith)
+      (taken-rest w (faultsAt (s .shape)) faultWidth (s .shape .faultLimit) (s .freeFaults) records (lit< tt) some (r .fair .faultCells) (r .faults))) freeFaultsAt (first later) (omega arith)
 
   filled-whole : Whole filled (s .shape) (fronts (faultsHeld s)) (cardChains s) (map (freeCell faultWidth) later ∷ records)
   unfolding filled
@@ -170,18 +171,18 @@ module _ (w : List ℕ) (s : Store) (r : Rep w s) (y : List ℕ) (day code : ℕ
   abbrev Linked : ℕ → Type 0
   Linked q = Whole (set filled q new) (s .shape) (fronts (faultsHeld s)) (chains (cellWith (first (fs ++ (new ∷ []))) (last fs) (length fs))) (faultChains (filed s y day code))
 
-  linked-first : card .faults ≡ [] → Linked (cardAt (s .shape) (card .at) 6)
+  linked-first : card .faults ≡ [] → Linked (cardAt (s .shape) (card .at) toFirst)
   unfolding cardCell faultCell
   linked-first e =
       let ch : historyOf (withFault fault card) ≡ faultCell fault ∷ [] = ap (λ (l : List Fault). map faultCell (l ++ (fault ∷ []))) e in
       let head : new ≡ first (fs ++ (new ∷ [])) = ap (λ (l : List Fault). first (faultCellsOf l ++ (new ∷ []))) (sym e) in
-      subst (λ (i : ℕ). Whole (set filled (cardAt (s .shape) (card .at) 6) new) (s .shape) (fronts (faultsHeld s)) (chains (cellWith i (last fs) (length fs))) (faultChains (filed s y day code))) head
-      (reword filled (fronts (faultsHeld s)) (faultChains (filed s y day code)) (cardCell card) 5 new (in-card (s .shape) (lit< tt)) (lit< tt)
+      subst (λ (i : ℕ). Whole (set filled (cardAt (s .shape) (card .at) toFirst) new) (s .shape) (fronts (faultsHeld s)) (chains (cellWith i (last fs) (length fs))) (faultChains (filed s y day code))) head
+      (reword filled (fronts (faultsHeld s)) (faultChains (filed s y day code)) (cardCell card) (toFirst - 1) new (in-card (s .shape) (lit< tt)) (lit< tt)
       (subst (λ (cs : List (List Cell)). Whole filled (s .shape) (fronts (faultsHeld s)) cs (faultChains (filed s y day code))) (sym chains-is)
       (subst (λ (l : List (List Cell)). Whole filled (s .shape) (fronts (faultsHeld s)) (cardChains s) l) (faults-filed (faultCell fault ∷ []) ch)
       (fault-chain filled (s .shape) _ _ _ filled-whole (suc (length left)) (faultCell fault ∷ []) (omega (arith, history-below (cards s) left card right cards-is)) (faults-apart (faultCell fault ∷ []) ch) (new-stands, tt)))))
 
-  linked-behind : (xs : List Fault) (z : Fault) → card .faults ≡ xs ++ (z ∷ []) → (1 ≤ z .at) × Linked (faultAt (s .shape) (z .at) 0)
+  linked-behind : (xs : List Fault) (z : Fault) → card .faults ≡ xs ++ (z ∷ []) → (1 ≤ z .at) × Linked (faultAt (s .shape) (z .at) toNext)
   unfolding cardCell faultCell
   linked-behind xs z e =
       let gs = map (freeCell faultWidth) later ∷ records in
@@ -192,9 +193,9 @@ module _ (w : List ℕ) (s : Store) (r : Rep w s) (y : List ℕ) (day code : ℕ
       let q = fault-behind filled (s .shape) _ _ gs filled-whole (suc (length left)) (map faultCell xs) (faultCell z) (faultCell fault) (new-in .0)
       (omega (arith, history-below (cards s) left card right cards-is)) (history-get (cards s) left card right cards-is ∙ old) new-none new-stands (faults-apart _ ch) in (
         q .0,
-        subst (λ (cs : List (List Cell)). Whole (set filled (faultAt (s .shape) (z .at) 0) new) (s .shape) (fronts (faultsHeld s)) cs (faultChains (filed s y day code)))
+        subst (λ (cs : List (List Cell)). Whole (set filled (faultAt (s .shape) (z .at) toNext) new) (s .shape) (fronts (faultsHeld s)) cs (faultChains (filed s y day code)))
             (sym chains-is ∙ ap (λ (i : ℕ). chains (cellWith i (last fs) (length fs))) head)
-            (subst (λ (l : List (List Cell)). Whole (set filled (faultAt (s .shape) (z .at) 0) new) (s .shape) (fronts (faultsHeld s)) (cardChains s) l) (faults-filed _ ch) (q .1)),
+            (subst (λ (l : List (List Cell)). Whole (set filled (faultAt (s .shape) (z .at) toNext) new) (s .shape) (fronts (faultsHeld s)) (cardChains s) l) (faults-filed _ ch) (q .1)),
       )
     where
       keeps : (l : List Fault) → first (faultCellsOf (l ++ (z ∷ []))) ≡ first (faultCellsOf (l ++ (z ∷ [])) ++ (new ∷ []))
@@ -202,7 +203,7 @@ module _ (w : List ℕ) (s : Store) (r : Rep w s) (y : List ℕ) (day code : ℕ
       keeps (c ∷ cs) = refl
 
   linkFor : ℕ → ℕ
-  linkFor end = cond (eqb end 0) (cardAt (s .shape) (card .at) 6) (faultAt (s .shape) end 0)
+  linkFor end = cond (eqb end 0) (cardAt (s .shape) (card .at) toFirst) (faultAt (s .shape) end toNext)
 
   linked : Linked (linkFor (last fs))
   unfolding linkFor
@@ -226,17 +227,17 @@ module _ (w : List ℕ) (s : Store) (r : Rep w s) (y : List ℕ) (day code : ℕ
       λ t. cellWith (i t) (j t) (n t)
 
   ended : List ℕ
-  ended = set (set filled (linkFor (last fs)) new) (cardAt (s .shape) (card .at) 7) new
+  ended = set (set filled (linkFor (last fs)) new) (cardAt (s .shape) (card .at) toLast) new
 
   counted : List ℕ
-  counted = set ended (cardAt (s .shape) (card .at) 8) (length fs + 1)
+  counted = set ended (cardAt (s .shape) (card .at) toCount) (length fs + 1)
 
   counted-whole : Whole counted (s .shape) (fronts (faultsHeld s)) (cardChains (filed s y day code)) (faultChains (filed s y day code))
   unfolding ended counted
   counted-whole =
       subst (λ (cs : List (List Cell)). Whole counted (s .shape) (fronts (faultsHeld s)) cs (faultChains (filed s y day code))) (ap chains card-filed ∙ chains-filed)
-      (reword ended (fronts (faultsHeld s)) _ (cellWith (first (fs ++ (new ∷ []))) new (length fs)) 7 (length fs + 1) (in-card (s .shape) (lit< tt)) (lit< tt)
-      (reword (set filled (linkFor (last fs)) new) (fronts (faultsHeld s)) _ (cellWith (first (fs ++ (new ∷ []))) (last fs) (length fs)) 6 new (in-card (s .shape) (lit< tt)) (lit< tt) linked))
+      (reword ended (fronts (faultsHeld s)) _ (cellWith (first (fs ++ (new ∷ []))) new (length fs)) (toCount - 1) (length fs + 1) (in-card (s .shape) (lit< tt)) (lit< tt)
+      (reword (set filled (linkFor (last fs)) new) (fronts (faultsHeld s)) _ (cellWith (first (fs ++ (new ∷ []))) (last fs) (length fs)) (toLast - 1) new (in-card (s .shape) (lit< tt)) (lit< tt) linked))
 
   held-filed : held s ≡ held (filed s y day code)
   held-filed = omega (arith, length-total (cards (filed s y day code)), length-total (cards s), filed-total s (r .fair) y day code one 0 (λ c. omega arith) (ap length (p .only)))
@@ -258,19 +259,19 @@ module _ (w : List ℕ) (s : Store) (r : Rep w s) (y : List ℕ) (day code : ℕ
       heads [] = refl
       heads (c ∷ cs) = refl
 
-  next-free : faultWord (s .shape) w new 0 ≡ first later
+  next-free : faultWord (s .shape) w new toNext ≡ first later
   unfolding faultWord
   next-free = taken-next w (faultsAt (s .shape)) faultWidth (s .shape .faultLimit) (s .freeFaults) records (lit< tt) some (r .fair .faultCells) (r .faults)
 
-  written : fileWords (s .shape) w (card .at) day code ≡ set counted 6 (faultsHeld s + 1)
+  written : fileWords (s .shape) w (card .at) day code ≡ set counted faultsHeldAt (faultsHeld s + 1)
   unfolding fileWords taken filled linkFor ended counted
   written =
       let f = free-faults-at w s r in
       let e = last-fault-at w s r a prior card (p .after) (p .parts) in
       let n = fault-count-at w s r a prior card (p .after) (p .parts) in
       let k = faults-held-at w s r in
-      let next = ap (λ (i : ℕ). faultWord (s .shape) w i 0) f ∙ next-free in
-      λ t. set (set (set (set (sets (set w 8 (next t)) (faultAt (s .shape) (f t) 0) (0 ∷ day ∷ code ∷ [])) (cond (eqb (e t) 0) (cardAt (s .shape) (card .at) 6) (faultAt (s .shape) (e t) 0)) (f t)) (cardAt (s .shape) (card .at) 7) (f t)) (cardAt (s .shape) (card .at) 8) (n t + 1)) 6 (k t + 1)
+      let next = ap (λ (i : ℕ). faultWord (s .shape) w i toNext) f ∙ next-free in
+      λ t. set (set (set (set (sets (set w freeFaultsAt (next t)) (faultAt (s .shape) (f t) toNext) (0 ∷ day ∷ code ∷ [])) (cond (eqb (e t) 0) (cardAt (s .shape) (card .at) toFirst) (faultAt (s .shape) (e t) toNext)) (f t)) (cardAt (s .shape) (card .at) toLast) (f t)) (cardAt (s .shape) (card .at) toCount) (n t + 1)) faultsHeldAt (k t + 1)
 
   pub rep-filed : Rep (fileWords (s .shape) w (card .at) day code) (filed s y day code)
   unfolding filed front header directory cardsAt
@@ -279,4 +280,4 @@ module _ (w : List ℕ) (s : Store) (r : Rep w s) (y : List ℕ) (day code : ℕ
       (whole-rep fair
       (λ t. fronted (s .shape) (s .maxp) (s .p) (held-filed t) (faults-held-filed t) (first (s .free)) (first later) (directory s) (segments-filed t))
       refl (λ h. h)
-      (front-write counted (s .shape) _ _ _ counted-whole 6 (faultsHeld s + 1) (omega arith)))
+      (front-write counted (s .shape) _ _ _ counted-whole faultsHeldAt (faultsHeld s + 1) (omega arith)))

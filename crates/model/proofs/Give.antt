@@ -2,7 +2,7 @@
 -- the last cell leads to what was the first free one, so that the two chains are one, and the history is empty (`joined`).
 use mathlib.Core.Path.{_≡_, refl, sym, ap, _∙_, subst}
 use mathlib.Core.List.{List, [], _∷_, _++_, map, append-nil}
-use Prim.Native.Nat.{ℕ, zero, suc, _+_, _≤_, _<_}
+use Prim.Native.Nat.{ℕ, zero, suc, _+_, _-_, _≤_, _<_}
 use native.Mathlib.Omega.{arith}
 use lib.Dec.{eqb, lit<}
 use lib.ListN.{length, getD, set, length-set}
@@ -11,6 +11,7 @@ use borrow.Author.Tests.{ne-eqb}
 use Rattle.model.specs.Lists.{join}
 use Rattle.model.specs.Model.{Fault, faultCellsOf}
 use Rattle.model.specs.Shape.{Shape}
+use Rattle.model.specs.Layout.{toNext, toDay, toCode}
 use Rattle.model.specs.Layout.{Cell, chained, faultWidth, faultsAt, faultCell, freeCell, first}
 use Rattle.model.specs.Words.{faultAt, clearWords}
 use Rattle.model.proofs.Lists.{map-append}
@@ -30,7 +31,7 @@ clear-none zero sh u = refl
 clear-none (suc fuel) sh u = refl
 
 pub clear-step : (fuel : ℕ) (sh : Shape) (u : List ℕ) (i : ℕ) → 1 ≤ i
-    → clearWords (suc fuel) sh u i ≡ clearWords fuel sh (set (set u (faultAt sh i 1) 0) (faultAt sh i 2) 0) (getD u (faultAt sh i 0) 0)
+    → clearWords (suc fuel) sh u i ≡ clearWords fuel sh (set (set u (faultAt sh i toDay) 0) (faultAt sh i toCode) 0) (getD u (faultAt sh i toNext) 0)
 unfolding clearWords
 clear-step fuel sh u i h = rw (ne-eqb i 0 (omega arith))
 
@@ -52,18 +53,18 @@ module _ (sh : Shape) (fr : List ℕ) (cs gs : List (List Cell)) (n : ℕ) (belo
 
   -- a cell set to zero, and what its next word leads to
   cleared-one : (x : Fault) (rest : List Fault) (done u : List ℕ) → Whole u sh fr cs (chains (map (freeCell faultWidth) done ++ (faultCell x ∷ map faultCell rest)))
-      → (1 ≤ x .at) × (getD u (faultAt sh (x .at) 0) 0 ≡ first (faultCellsOf rest))
-      × Whole (set (set u (faultAt sh (x .at) 1) 0) (faultAt sh (x .at) 2) 0) sh fr cs (chains (map (freeCell faultWidth) (done ++ (x .at ∷ [])) ++ map faultCell rest))
+      → (1 ≤ x .at) × (getD u (faultAt sh (x .at) toNext) 0 ≡ first (faultCellsOf rest))
+      × Whole (set (set u (faultAt sh (x .at) toDay) 0) (faultAt sh (x .at) toCode) 0) sh fr cs (chains (map (freeCell faultWidth) (done ++ (x .at ∷ [])) ++ map faultCell rest))
   unfolding faultCell freeCell
   cleared-one x rest done u r =
       let D = map (freeCell faultWidth) done in
       let ys = map faultCell rest in
-      let q = reword u D (faultCell x) ys 0 0 (lit< tt) (lit< tt) (subst (λ (l : List Cell). Whole u sh fr cs (chains l)) (sym (append-snoc D (faultCell x) ys)) r) in
-      let q′ = reword (set u (faultAt sh (x .at) 1) 0) D (record { at = x .at; words = 0 ∷ x .code ∷ [] }) ys 1 0 (lit< tt) (lit< tt) (q .1) in (
+      let q = reword u D (faultCell x) ys (toDay - 1) 0 (lit< tt) (lit< tt) (subst (λ (l : List Cell). Whole u sh fr cs (chains l)) (sym (append-snoc D (faultCell x) ys)) r) in
+      let q′ = reword (set u (faultAt sh (x .at) toDay) 0) D (record { at = x .at; words = 0 ∷ x .code ∷ [] }) ys (toCode - 1) 0 (lit< tt) (lit< tt) (q .1) in (
         q .0,
-        stand-at faultWidth (cellIn u (faultsAt sh) faultWidth) D (faultCell x) ys (subst (λ (l : List Cell). Stand (cellIn u (faultsAt sh) faultWidth) faultWidth (chained 0 l)) (getD-set-same gs n _ [] below) (r .faults n)) 0 (lit< tt)
+        stand-at faultWidth (cellIn u (faultsAt sh) faultWidth) D (faultCell x) ys (subst (λ (l : List Cell). Stand (cellIn u (faultsAt sh) faultWidth) faultWidth (chained 0 l)) (getD-set-same gs n _ [] below) (r .faults n)) toNext (lit< tt)
             ∙ sym (head-faults rest),
-        subst (λ (l : List Cell). Whole (set (set u (faultAt sh (x .at) 1) 0) (faultAt sh (x .at) 2) 0) sh fr cs (chains (l ++ ys))) (sym (map-append (freeCell faultWidth) done (x .at ∷ []))) (q′ .1),
+        subst (λ (l : List Cell). Whole (set (set u (faultAt sh (x .at) toDay) 0) (faultAt sh (x .at) toCode) 0) sh fr cs (chains (l ++ ys))) (sym (map-append (freeCell faultWidth) done (x .at ∷ []))) (q′ .1),
       )
 
   pub cleared : (fuel : ℕ) (rest : List Fault) (done u : List ℕ) → length rest ≤ fuel
@@ -75,7 +76,7 @@ module _ (sh : Shape) (fr : List ℕ) (cs gs : List (List Cell)) (n : ℕ) (belo
   cleared zero (x ∷ rest) done u l r = absurd (omega arith)
   cleared (suc fuel) (x ∷ rest) done u l r =
       let (i, next, q) = cleared-one x rest done u r in
-      let v = set (set u (faultAt sh (x .at) 1) 0) (faultAt sh (x .at) 2) 0 in
+      let v = set (set u (faultAt sh (x .at) toDay) 0) (faultAt sh (x .at) toCode) 0 in
       subst (λ (z : List ℕ). Whole z sh fr cs (chains (map (freeCell faultWidth) (done ++ (x .at ∷ faultCellsOf rest))))) (sym (clear-step fuel sh u (x .at) i ∙ ap (clearWords fuel sh v) next))
       (subst (λ (l : List ℕ). Whole (clearWords fuel sh v (first (faultCellsOf rest))) sh fr cs (chains (map (freeCell faultWidth) l))) (append-snoc done (x .at) (faultCellsOf rest))
       (cleared fuel rest (done ++ (x .at ∷ [])) v (omega arith) q))
@@ -119,11 +120,11 @@ module _ (sh : Shape) (fr : List ℕ) (cs hs : List (List Cell)) (m : ℕ) (belo
         )
 
     -- the free cells are left out, the last cell leads to the first of them
-    led : Whole (set u (faultAt sh z 0) (first free)) sh fr cs ([] ∷ set hs m (ch ++ map F free))
+    led : Whole (set u (faultAt sh z toNext) (first free)) sh fr cs ([] ∷ set hs m (ch ++ map F free))
     unfolding freeCell
     led =
-        subst (λ (l : List (List Cell)). Whole (set u (faultAt sh z 0) (first free)) sh fr cs ([] ∷ l)) (set-set hs m ch (ch ++ map F free))
-        (subst (λ (v : ℕ). Whole (set u (faultAt sh z 0) v) sh fr cs ([] ∷ set (set hs m ch) m (ch ++ map F free))) (sym (head-free faultWidth free))
+        subst (λ (l : List (List Cell)). Whole (set u (faultAt sh z toNext) (first free)) sh fr cs ([] ∷ l)) (set-set hs m ch (ch ++ map F free))
+        (subst (λ (v : ℕ). Whole (set u (faultAt sh z toNext) v) sh fr cs ([] ∷ set (set hs m ch) m (ch ++ map F free))) (sym (head-free faultWidth free))
         (fault-cut u sh fr cs ([] ∷ set hs m ch)
         (fault-chain u sh fr cs (map F free ∷ set hs m ch) r 0 [] (omega arith) (less ([] ∷ set hs m ch) (λ i. omega arith)) tt)
         (suc m) (map F xs) (F z) [] (omega (arith, length-set hs m ch)) (here ∙ sym (append-nil ch)) (map F free)
@@ -137,9 +138,9 @@ module _ (sh : Shape) (fr : List ℕ) (cs hs : List (List Cell)) (m : ℕ) (belo
         )))))
 
     -- and the chain is seen as the free one
-    pub joined : Whole (set u (faultAt sh z 0) (first free)) sh fr cs ((ch ++ map F free) ∷ set hs m [])
+    pub joined : Whole (set u (faultAt sh z toNext) (first free)) sh fr cs ((ch ++ map F free) ∷ set hs m [])
     joined =
-        let v = set u (faultAt sh z 0) (first free) in
+        let v = set u (faultAt sh z toNext) (first free) in
         fault-chain v sh fr cs ([] ∷ set hs m [])
         (subst (λ (l : List (List Cell)). Whole v sh fr cs ([] ∷ l)) (set-set hs m (ch ++ map F free) [])
         (fault-chain v sh fr cs ([] ∷ set hs m (ch ++ map F free)) led (suc m) [] (omega (arith, length-set hs m (ch ++ map F free)))

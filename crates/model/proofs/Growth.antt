@@ -278,8 +278,8 @@ module _ (s : Store) (r : Fair s) where
   halved-load : 2 * (s .shape .lower * size s) ≤ s .shape .upper * size s
   halved-load = let h : size s * (2 * s .shape .lower) ≤ size s * s .shape .upper = mul-le-mul-left (size s) (bounds .half) in omega arith
 
-  some-load : 16 * s .shape .lower ≤ s .shape .lower * size s
-  some-load = let h : s .shape .lower * 16 ≤ s .shape .lower * size s = mul-le-mul-left (s .shape .lower) (size-least s r) in omega arith
+  some-load : least * s .shape .lower ≤ s .shape .lower * size s
+  some-load = let h : s .shape .lower * least ≤ s .shape .lower * size s = mul-le-mul-left (s .shape .lower) (size-least s r) in omega arith
 
   -- one card too many is mended by one bucket more, one card too few by one bucket less
   pub grown-good : (size s < topOf (s .shape) → held s ≤ s .shape .upper * size s + 1) → (least < size s → s .shape .lower * size s ≤ held s) → Good (grown s)
@@ -305,7 +305,7 @@ module _ (s : Store) (r : Fair s) where
       let l = lo (f .1) in
       let c : s .shape .upper * size s ≡ contract s .shape .upper * size (contract s) + contract s .shape .upper = (λ i. sym (contract-shape s) i .upper * sym z i) ∙ omega arith in
       let d : s .shape .lower * size s ≡ contract s .shape .lower * size (contract s) + contract s .shape .lower = (λ i. sym (contract-shape s) i .lower * sym z i) ∙ omega arith in
-      let u : s .shape .upper * 16 ≤ s .shape .upper * size s = mul-le-mul-left (s .shape .upper) (size-least s r) in
+      let u : s .shape .upper * least ≤ s .shape .upper * size s = mul-le-mul-left (s .shape .upper) (size-least s r) in
       let v : contract s .shape .upper ≡ s .shape .upper = (λ i. contract-shape s i .upper) in
       let v′ : contract s .shape .lower ≡ s .shape .lower = (λ i. contract-shape s i .lower) in
       rw e (record { fair = contract-fair s r (f .1); high = λ k. omega (arith, f .0, halved-load); low = λ h. omega (arith, bounds .one) }))

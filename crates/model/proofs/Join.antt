@@ -19,6 +19,7 @@ use Rattle.rules.proofs.Addresses.{shrink-ok, shrink-count}
 use Rattle.model.specs.Lists.{join, total}
 use Rattle.model.specs.Shape.{segmentSize, entries, topOf}
 use Rattle.model.specs.Model.{Store, Card, cards, held, faultsHeld, size, under, bucket, cellsOf, contract, shrunk}
+use Rattle.model.specs.Layout.{maxpAt, pAt, heldAt, toNext}
 use Rattle.model.specs.Layout.{Cell, headOr, chained, cardWidth, faultWidth, directoryAt, segmentsAt, cardsAt, faultsAt, cardCell, freeCell, cardChains, faultChains, header, directory, segments, front, first, last}
 use Rattle.model.specs.Meaning.{bucketsIn, bucketWord, bucketCells}
 use Rattle.model.specs.Words.{cardAt, linkAt, closeWords, joinWords, shrinkWords}
@@ -132,7 +133,7 @@ module _ (w : List ℕ) (s : Store) (r : Rep w s) (more : least < size s) where
     same = λ b n. getD-set-other (segments s) q b v 0 n;
   }
 
-  linked-behind : (xs : List Card) (x : Card) → bucket s q ≡ xs ++ (x ∷ []) → (1 ≤ x .at) × Linked (set w (cardAt (s .shape) (x .at) 0) v) (segments s)
+  linked-behind : (xs : List Card) (x : Card) → bucket s q ≡ xs ++ (x ∷ []) → (1 ≤ x .at) × Linked (set w (cardAt (s .shape) (x .at) toNext) v) (segments s)
   unfolding front header cardCell
   linked-behind xs x z =
       let zs = map cardCell (bucket s e) in
@@ -149,8 +150,8 @@ module _ (w : List ℕ) (s : Store) (r : Rep w s) (more : least < size s) where
       ) in (
         r .fair .cells .inside (x .at) (omega (arith, less-count (x .at))) .0,
         record {
-          whole = subst (λ (i : ℕ). Whole (set w (cardAt (s .shape) (x .at) 0) i) (s .shape) (front s) now (faultChains s)) (sym (head-cards (bucket s e)))
-              (subst (λ (l : List Cell). Whole (set w (cardAt (s .shape) (x .at) 0) (headOr 0 zs)) (s .shape) (front s) (set less (suc q) l) (faultChains s)) ch
+          whole = subst (λ (i : ℕ). Whole (set w (cardAt (s .shape) (x .at) toNext) i) (s .shape) (front s) now (faultChains s)) (sym (head-cards (bucket s e)))
+              (subst (λ (l : List Cell). Whole (set w (cardAt (s .shape) (x .at) toNext) (headOr 0 zs)) (s .shape) (front s) (set less (suc q) l) (faultChains s)) ch
               (card-cut w (s .shape) (front s) less (faultChains s) less-whole (suc q) (map cardCell xs) (cardCell x) [] below-q g zs
               (λ i h. r .fair .cells .inside i (omega (arith, less-count i)) .0) (omega (arith, less-count (x .at), r .fair .cells .once (x .at))) stand-e
               (subst (λ (l : List Cell). Apart (s .shape .limit) (join (set less (suc q) l))) (sym ch) now-apart)));
@@ -272,34 +273,34 @@ module _ (w : List ℕ) (s : Store) (r : Rep w s) (more : least < size s) where
       (join-every P (take e (s .buckets)) (λ j. subst (Every P) (sym (getD-front (s .buckets) e j [])) (by-cases (ltb j e) (λ t. rw t (old j)) (λ t. rw t tt))))
       (every-append P (bucket s q) (bucket s e) (old q) (old e)))
 
-  written : joinWords (s .shape) w (last (cellsOf (bucket s q))) ≡ set (set (closeWords (s .shape) w₂ e) 3 (lowMaxp (s .maxp) (s .p))) 4 q
+  written : joinWords (s .shape) w (last (cellsOf (bucket s q))) ≡ set (set (closeWords (s .shape) w₂ e) maxpAt (lowMaxp (s .maxp) (s .p))) pAt q
   unfolding joinWords w₂
   written =
       let m = maxp-at w s r in
       let p = p-at w s r in
-      let b : bucketWord (s .shape) w (getD w 3 0 + getD w 4 0 - 1) ≡ v = (λ t. bucketWord (s .shape) w (m t + p t - 1)) ∙ bucket-at w s r e (omega (arith, number)) in
-      λ t. set (set (closeWords (s .shape) (set (set w (linkAt (s .shape) (lowP (m t) (p t)) (last (cellsOf (bucket s q)))) (b t)) (segmentsAt (s .shape) + (m t + p t - 1)) 0) (m t + p t - 1)) 3 (lowMaxp (m t) (p t))) 4 (lowP (m t) (p t))
+      let b : bucketWord (s .shape) w (getD w maxpAt 0 + getD w pAt 0 - 1) ≡ v = (λ t. bucketWord (s .shape) w (m t + p t - 1)) ∙ bucket-at w s r e (omega (arith, number)) in
+      λ t. set (set (closeWords (s .shape) (set (set w (linkAt (s .shape) (lowP (m t) (p t)) (last (cellsOf (bucket s q)))) (b t)) (segmentsAt (s .shape) + (m t + p t - 1)) 0) (m t + p t - 1)) maxpAt (lowMaxp (m t) (p t))) pAt (lowP (m t) (p t))
 
   pub rep-contract : Rep (joinWords (s .shape) w (last (cellsOf (bucket s q)))) (contract s)
   unfolding contract front header cardsAt
   rep-contract =
       let u = closeWords (s .shape) w₂ e in
-      let x = set u 3 (lowMaxp (s .maxp) (s .p)) in
+      let x = set u maxpAt (lowMaxp (s .maxp) (s .p)) in
       subst (λ (u : List ℕ). Rep u (contract s)) (sym written)
       (whole-rep fair
       (λ t. fronted (s .shape) (lowMaxp (s .maxp) (s .p)) q (held-contract t) (faults-contract t) (first (s .free)) (first (s .freeFaults)) (directory (contract s)) (segments (contract s)))
-      refl (recorded-contract (set x 4 q))
-      (front-write x (s .shape) _ _ _ (front-write u (s .shape) _ _ _ closed 3 (lowMaxp (s .maxp) (s .p)) (omega arith)) 4 q (omega arith)))
+      refl (recorded-contract (set x pAt q))
+      (front-write x (s .shape) _ _ _ (front-write u (s .shape) _ _ _ closed maxpAt (lowMaxp (s .maxp) (s .p)) (omega arith)) pAt q (omega arith)))
 
 -- and if the load asks for it
 pub rep-shrunk : (w : List ℕ) (s : Store) → Rep w s → Rep (shrinkWords (s .shape) w) (shrunk s)
 unfolding shrinkWords shrunk
 rep-shrunk w s r =
-    let n : contracts (s .shape .lower) (getD w 5 0) (bucketsIn w) ≡ under s = λ t. contracts (s .shape .lower) (held-at w s r t) (maxp-at w s r t + p-at w s r t) in
+    let n : contracts (s .shape .lower) (getD w heldAt 0) (bucketsIn w) ≡ under s = λ t. contracts (s .shape .lower) (held-at w s r t) (maxp-at w s r t + p-at w s r t) in
     by-cases (under s) (λ e. rw (n, e) (joined (contracts-true (s .shape .lower) (held s) (size s) e .1))) (λ e. rw (n, e) r)
   where
-    joined : least < size s → Rep (joinWords (s .shape) w (last (bucketCells (s .shape) w (lowP (getD w 3 0) (getD w 4 0))))) (contract s)
+    joined : least < size s → Rep (joinWords (s .shape) w (last (bucketCells (s .shape) w (lowP (getD w maxpAt 0) (getD w pAt 0))))) (contract s)
     joined more =
-        let k : bucketCells (s .shape) w (lowP (getD w 3 0) (getD w 4 0)) ≡ cellsOf (bucket s (lowP (s .maxp) (s .p))) =
+        let k : bucketCells (s .shape) w (lowP (getD w maxpAt 0) (getD w pAt 0)) ≡ cellsOf (bucket s (lowP (s .maxp) (s .p))) =
         (λ t. bucketCells (s .shape) w (lowP (maxp-at w s r t) (p-at w s r t))) ∙ chain-at w s r (lowP (s .maxp) (s .p)) (omega (arith, inside w s r more, number w s r more)) in
         subst (λ (l : List ℕ). Rep (joinWords (s .shape) w (last l)) (contract s)) (sym k) (rep-contract w s r more)

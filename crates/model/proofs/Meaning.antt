@@ -21,6 +21,7 @@ use Rattle.model.specs.Lists.{all, same, join, from, total}
 use Rattle.model.specs.Serial.{serialOk, validFault}
 use Rattle.model.specs.Shape.{Shape, segmentSize, entries, topOf}
 use Rattle.model.specs.Model.{Card, cards, histories, held, faultsHeld, bucket, faultCellsOf}
+use Rattle.model.specs.Layout.{formatAt, limitAt, faultLimitAt, maxpAt, pAt, heldAt, faultsHeldAt, freeAt, freeFaultsAt, directoryOffsetAt, segmentsOffsetAt, cardsOffsetAt, faultsOffsetAt, wholeLengthAt, boundsAt, ruleAt, toLength, toSerial, toFirst, toLast, toCount, toDay, toCode}
 use Rattle.model.specs.Layout.{Cell, headOr, chained, cardWidth, faultWidth, directoryAt, segmentsAt, cardCell, faultCell, freeCell, cardChains, faultChains, cardsAt, faultsAt, lengthFor, header, directory, segments, front, first, last, packed, follow, cardWord, faultWord, readFault, readCard, readChain, shapeOf, decodeAs, decode, goodCard, loadOk, sound}
 use Rattle.model.specs.Meaning.{In, ExactlyOnce, Leads, bucketsIn, bucketWord, nextCard, nextFault, bucketCells, freeCells, historyCells, freeFaultCells, heldCells, filedCells, bytesIn, serialIn, SoundAs, Sound}
 use Rattle.model.proofs.Lists.{same-refl, same-is, Every, every-at, at-every, every-map, map-every, map-append}
@@ -140,17 +141,17 @@ module _ (sh : Shape) (w : List ℕ) where
 -- words that stand for the store read from them have every clause
 
 module _ (sh : Shape) (w : List ℕ) (r : Rep w (decodeAs sh w)) where
-  free-led : Leads (nextCard sh w) (getD w 7 0) (freeCells sh w) × Every (Reads (cardWord sh w) (cardWidth sh) (freeCell (cardWidth sh))) (freeCells sh w)
+  free-led : Leads (nextCard sh w) (getD w freeAt 0) (freeCells sh w) × Every (Reads (cardWord sh w) (cardWidth sh) (freeCell (cardWidth sh))) (freeCells sh w)
   unfolding decodeAs cardWord freeCells front header cardsAt freeCell
   free-led =
       let q = stand-led (cardWord sh w) (cardWidth sh) (freeCell (cardWidth sh)) (λ i. refl) (in-card sh (lit< tt)) (freeCells sh w) (r .cards 0) in
-      (subst (λ (h : ℕ). Leads (nextCard sh w) h (freeCells sh w)) (sym (rep-head r 7 (lit< tt) ∙ head-free (cardWidth sh) (freeCells sh w))) (q .0), q .1)
+      (subst (λ (h : ℕ). Leads (nextCard sh w) h (freeCells sh w)) (sym (rep-head r freeAt (lit< tt) ∙ head-free (cardWidth sh) (freeCells sh w))) (q .0), q .1)
 
-  free-faults-led : Leads (nextFault sh w) (getD w 8 0) (freeFaultCells sh w) × Every (Reads (faultWord sh w) faultWidth (freeCell faultWidth)) (freeFaultCells sh w)
+  free-faults-led : Leads (nextFault sh w) (getD w freeFaultsAt 0) (freeFaultCells sh w) × Every (Reads (faultWord sh w) faultWidth (freeCell faultWidth)) (freeFaultCells sh w)
   unfolding decodeAs faultWord freeFaultCells front header cardsAt freeCell
   free-faults-led =
       let q = stand-led (faultWord sh w) faultWidth (freeCell faultWidth) (λ i. refl) (lit< tt) (freeFaultCells sh w) (r .faults 0) in
-      (subst (λ (h : ℕ). Leads (nextFault sh w) h (freeFaultCells sh w)) (sym (rep-head r 8 (lit< tt) ∙ head-free faultWidth (freeFaultCells sh w))) (q .0), q .1)
+      (subst (λ (h : ℕ). Leads (nextFault sh w) h (freeFaultCells sh w)) (sym (rep-head r freeFaultsAt (lit< tt) ∙ head-free faultWidth (freeFaultCells sh w))) (q .0), q .1)
 
   buckets-top : bucketsIn w ≤ topOf sh
   unfolding decodeAs
@@ -176,23 +177,23 @@ module _ (sh : Shape) (w : List ℕ) (r : Rep w (decodeAs sh w)) where
 
   -- the words of a card
 
-  serial-length : (i : ℕ) → In i (heldCells sh w) → cardWord sh w i 1 ≡ length (serialIn sh w i)
+  serial-length : (i : ℕ) → In i (heldCells sh w) → cardWord sh w i toLength ≡ length (serialIn sh w i)
   unfolding cardCell readCard serialIn bytesIn
-  serial-length i p = held-words i p 0 (in-card sh (lit< tt))
+  serial-length i p = held-words i p (toLength - 1) (in-card sh (lit< tt))
 
-  first-fault : (i : ℕ) → In i (heldCells sh w) → cardWord sh w i 6 ≡ headOr 0 (map (faultOf sh w) (historyCells sh w i))
+  first-fault : (i : ℕ) → In i (heldCells sh w) → cardWord sh w i toFirst ≡ headOr 0 (map (faultOf sh w) (historyCells sh w i))
   unfolding cardCell
-  first-fault i p = held-words i p 5 (in-card sh (lit< tt)) ∙ head-faults (readCard sh w i .faults) ∙ ap (headOr 0) (history-cells sh w i)
+  first-fault i p = held-words i p (toFirst - 1) (in-card sh (lit< tt)) ∙ head-faults (readCard sh w i .faults) ∙ ap (headOr 0) (history-cells sh w i)
 
-  last-fault : (i : ℕ) → In i (heldCells sh w) → cardWord sh w i 7 ≡ last (historyCells sh w i)
+  last-fault : (i : ℕ) → In i (heldCells sh w) → cardWord sh w i toLast ≡ last (historyCells sh w i)
   unfolding cardCell readCard historyCells
-  last-fault i p = held-words i p 6 (in-card sh (lit< tt)) ∙ ap last (faults-read sh w (historyCells sh w i))
+  last-fault i p = held-words i p (toLast - 1) (in-card sh (lit< tt)) ∙ ap last (faults-read sh w (historyCells sh w i))
 
-  fault-count-at : (i : ℕ) → In i (heldCells sh w) → cardWord sh w i 8 ≡ length (historyCells sh w i)
+  fault-count-at : (i : ℕ) → In i (heldCells sh w) → cardWord sh w i toCount ≡ length (historyCells sh w i)
   unfolding cardCell readCard historyCells
-  fault-count-at i p = held-words i p 7 (in-card sh (lit< tt)) ∙ ap length (faults-read sh w (historyCells sh w i))
+  fault-count-at i p = held-words i p (toCount - 1) (in-card sh (lit< tt)) ∙ ap length (faults-read sh w (historyCells sh w i))
 
-  history-led : (i : ℕ) → In i (heldCells sh w) → Leads (nextFault sh w) (cardWord sh w i 6) (historyCells sh w i)
+  history-led : (i : ℕ) → In i (heldCells sh w) → Leads (nextFault sh w) (cardWord sh w i toFirst) (historyCells sh w i)
   unfolding decodeAs faultWord faultCell readFault
   history-led i p =
       let P : List Cell → Type 0 = λ ch. Stand (cellIn w (faultsAt sh) faultWidth) faultWidth (chained 0 ch) in
@@ -205,32 +206,32 @@ module _ (sh : Shape) (w : List ℕ) (r : Rep w (decodeAs sh w)) where
 
   -- what is tested of a card
 
-  good-read : (b i : ℕ) → b < bucketsIn w → In i (bucketCells sh w b) → goodCard (getD w 3 0) (getD w 4 0) b (readCard sh w i) ≡ true
+  good-read : (b i : ℕ) → b < bucketsIn w → In i (bucketCells sh w b) → goodCard (getD w maxpAt 0) (getD w pAt 0) b (readCard sh w i) ≡ true
   unfolding decodeAs
   good-read b i h p =
-      let f = goodCard (getD w 3 0) (getD w 4 0) b in
+      let f = goodCard (getD w maxpAt 0) (getD w pAt 0) b in
       every-in (λ i. f (readCard sh w i) ≡ true) (bucketCells sh w b)
       (every-map (λ c. f c ≡ true) (readCard sh w) (bucketCells sh w b) (all-every f (map (readCard sh w) (bucketCells sh w b)) (rw (bucket-read sh w b h) at (r .fair .addressed b)))) i p
 
   module _ (b i : ℕ) (h : b < bucketsIn w) (p : In i (bucketCells sh w b)) where
-    good-parts : (serialOk (serialIn sh w i) ≡ true) × (eqb (addressOf (codeOf (serialIn sh w i)) (getD w 3 0) (getD w 4 0)) b ≡ true) × (all (λ f. validFault (f .day) (f .code)) (readCard sh w i .faults) ≡ true)
+    good-parts : (serialOk (serialIn sh w i) ≡ true) × (eqb (addressOf (codeOf (serialIn sh w i)) (getD w maxpAt 0) (getD w pAt 0)) b ≡ true) × (all (λ f. validFault (f .day) (f .code)) (readCard sh w i .faults) ≡ true)
     unfolding goodCard readCard serialIn bytesIn
     good-parts =
         let g = both (serialOk (serialIn sh w i)) _ (good-read b i h p) in
-        let a = both (eqb (addressOf (codeOf (serialIn sh w i)) (getD w 3 0) (getD w 4 0)) b) _ (g .1) in
+        let a = both (eqb (addressOf (codeOf (serialIn sh w i)) (getD w maxpAt 0) (getD w pAt 0)) b) _ (g .1) in
         (g .0, a .0, a .1)
 
-    faults-valid : (k : ℕ) → In k (historyCells sh w i) → validFault (faultWord sh w k 1) (faultWord sh w k 2) ≡ true
+    faults-valid : (k : ℕ) → In k (historyCells sh w i) → validFault (faultWord sh w k toDay) (faultWord sh w k toCode) ≡ true
     unfolding readCard historyCells readFault
     faults-valid k q =
-        every-in (λ k. validFault (faultWord sh w k 1) (faultWord sh w k 2) ≡ true) (historyCells sh w i)
+        every-in (λ k. validFault (faultWord sh w k toDay) (faultWord sh w k toCode) ≡ true) (historyCells sh w i)
         (every-map (λ f. validFault (f .day) (f .code) ≡ true) (readFault sh w) (historyCells sh w i) (all-every (λ f. validFault (f .day) (f .code)) (readCard sh w i .faults) (good-parts .2))) k q
 
-    padded-zero : all (eqb 0) (drop (cardWord sh w i 1) (bytesIn sh w i)) ≡ true
+    padded-zero : all (eqb 0) (drop (cardWord sh w i toLength) (bytesIn sh w i)) ≡ true
     unfolding cardCell readCard serialIn bytesIn
     padded-zero =
         let at = held-words i (held-in sh w b i h p) in
-        serial-padded _ _ _ _ _ (serialIn sh w i) (good-parts .0) (at 0 (in-card sh (lit< tt))) (at 1 (in-card sh (lit< tt))) (at 2 (in-card sh (lit< tt))) (at 3 (in-card sh (lit< tt))) (at 4 (in-card sh (lit< tt)))
+        serial-padded _ _ _ _ _ (serialIn sh w i) (good-parts .0) (at (toLength - 1) (in-card sh (lit< tt))) (at (toSerial - 1) (in-card sh (lit< tt))) (at (toSerial + 1 - 1) (in-card sh (lit< tt))) (at (toSerial + 2 - 1) (in-card sh (lit< tt))) (at (toSerial + 3 - 1) (in-card sh (lit< tt)))
 
   apart : (i j : ℕ) → In i (heldCells sh w) → In j (heldCells sh w) → serialIn sh w i ≡ serialIn sh w j → i ≡ j
   unfolding readCard serialIn bytesIn
@@ -261,21 +262,21 @@ module _ (sh : Shape) (w : List ℕ) (r : Rep w (decodeAs sh w)) where
   pub rep-means : loadOk (decodeAs sh w) ≡ true → SoundAs sh w
   unfolding decodeAs front header cardsAt
   rep-means e =
-      let n = rep-head r 5 (lit< tt) in
+      let n = rep-head r heldAt (lit< tt) in
       let l = load-is (decodeAs sh w) (r .fair) e in
       record {
-        formatWord = rep-head r 0 (lit< tt);
-        limitWord = rep-head r 1 (lit< tt);
-        faultLimitWord = rep-head r 2 (lit< tt);
+        formatWord = rep-head r formatAt (lit< tt);
+        limitWord = rep-head r limitAt (lit< tt);
+        faultLimitWord = rep-head r faultLimitAt (lit< tt);
         shape = r .fair .shape;
         state = r .fair .state;
-        directoryOffset = rep-head r 9 (lit< tt);
-        segmentsOffset = rep-head r 10 (lit< tt);
-        cardsOffset = rep-head r 11 (lit< tt);
-        faultsOffset = rep-head r 12 (lit< tt);
-        lengthWord = rep-head r 13 (lit< tt);
-        word14 = rep-head r 14 (lit< tt);
-        word15 = rep-head r 15 (lit< tt);
+        directoryOffset = rep-head r directoryOffsetAt (lit< tt);
+        segmentsOffset = rep-head r segmentsOffsetAt (lit< tt);
+        cardsOffset = rep-head r cardsOffsetAt (lit< tt);
+        faultsOffset = rep-head r faultsOffsetAt (lit< tt);
+        lengthWord = rep-head r wholeLengthAt (lit< tt);
+        bounds = rep-head r boundsAt (lit< tt);
+        rule = rep-head r ruleAt (lit< tt);
         wholeLength = r .long;
         directoryUsed = λ k h u. directory-entry k h ∙ rw (lt-ltb (segmentSize * k) (bucketsIn w) u);
         directoryUnused = λ k h u. directory-entry k h ∙ rw (le-ltb (segmentSize * k) (bucketsIn w) u);
@@ -296,7 +297,7 @@ module _ (sh : Shape) (w : List ℕ) (r : Rep w (decodeAs sh w)) where
         freeFaultsZero = λ i k p. reads-zero (faultWord sh w) faultWidth i (every-in (Reads (faultWord sh w) faultWidth (freeCell faultWidth)) (freeFaultCells sh w) (free-faults-led .1) i p) k;
         unusedZero = word-past;
         cardsHeld = n ∙ held-read sh w;
-        faultsHeld = rep-head r 6 (lit< tt) ∙ filed-read sh w;
+        faultsHeld = rep-head r faultsHeldAt (lit< tt) ∙ filed-read sh w;
         serialLengths = serial-length;
         faultCounts = fault-count-at;
         lastFaults = last-fault;
@@ -309,8 +310,8 @@ module _ (sh : Shape) (w : List ℕ) (m : SoundAs sh w) where
   unfolding cardCell readCard serialIn bytesIn historyCells
   card-reads i p = at
     where
-      b : (packed (serialIn sh w i) 0 ≡ cardWord sh w i 2) × (packed (serialIn sh w i) 4 ≡ cardWord sh w i 3) × (packed (serialIn sh w i) 8 ≡ cardWord sh w i 4) × (packed (serialIn sh w i) 12 ≡ cardWord sh w i 5)
-      b = words-back (cardWord sh w i 1) (cardWord sh w i 2) (cardWord sh w i 3) (cardWord sh w i 4) (cardWord sh w i 5) (m .padding i p)
+      b : (packed (serialIn sh w i) 0 ≡ cardWord sh w i toSerial) × (packed (serialIn sh w i) 4 ≡ cardWord sh w i (toSerial + 1)) × (packed (serialIn sh w i) 8 ≡ cardWord sh w i (toSerial + 2)) × (packed (serialIn sh w i) 12 ≡ cardWord sh w i (toSerial + 3))
+      b = words-back (cardWord sh w i toLength) (cardWord sh w i toSerial) (cardWord sh w i (toSerial + 1)) (cardWord sh w i (toSerial + 2)) (cardWord sh w i (toSerial + 3)) (m .padding i p)
 
       h : historyCells sh w i ≡ faultCellsOf (map (readFault sh w) (historyCells sh w i))
       h = sym (faults-read sh w (historyCells sh w i))
@@ -321,25 +322,25 @@ module _ (sh : Shape) (w : List ℕ) (m : SoundAs sh w) where
       at (suc (suc zero)) l = sym (b .1)
       at (suc (suc (suc zero))) l = sym (b .2)
       at (suc (suc (suc (suc zero)))) l = sym (b .3)
-      at (suc (suc (suc (suc (suc zero))))) l = led-first (nextFault sh w) (cardWord sh w i 6) (historyCells sh w i) (m .historyChain i p) ∙ ap first h
+      at (suc (suc (suc (suc (suc zero))))) l = led-first (nextFault sh w) (cardWord sh w i toFirst) (historyCells sh w i) (m .historyChain i p) ∙ ap first h
       at (suc (suc (suc (suc (suc (suc zero)))))) l = m .lastFaults i p ∙ ap last h
       at (suc (suc (suc (suc (suc (suc (suc zero))))))) l = m .faultCounts i p ∙ ap length h
       at (suc (suc (suc (suc (suc (suc (suc (suc k)))))))) l = absurd (omega (arith, width-most sh))
 
-  card-good : (b i : ℕ) → b < bucketsIn w → In i (bucketCells sh w b) → goodCard (getD w 3 0) (getD w 4 0) b (readCard sh w i) ≡ true
+  card-good : (b i : ℕ) → b < bucketsIn w → In i (bucketCells sh w b) → goodCard (getD w maxpAt 0) (getD w pAt 0) b (readCard sh w i) ≡ true
   unfolding goodCard readCard serialIn bytesIn historyCells readFault
   card-good b i h p =
       let q = held-in sh w b i h p in
       all-of (m .serials i q)
-      (all-of (eq-eqb (addressOf (codeOf (serialIn sh w i)) (getD w 3 0) (getD w 4 0)) b (m .addressed b i h p))
+      (all-of (eq-eqb (addressOf (codeOf (serialIn sh w i)) (getD w maxpAt 0) (getD w pAt 0)) b (m .addressed b i h p))
       (every-all (λ f. validFault (f .day) (f .code)) (map (readFault sh w) (historyCells sh w i))
       (map-every (λ f. validFault (f .day) (f .code) ≡ true) (readFault sh w) (historyCells sh w i)
-      (in-every (λ k. validFault (faultWord sh w k 1) (faultWord sh w k 2) ≡ true) (historyCells sh w i) (λ k. m .faults i k q)))))
+      (in-every (λ k. validFault (faultWord sh w k toDay) (faultWord sh w k toCode) ≡ true) (historyCells sh w i) (λ k. m .faults i k q)))))
 
-  all-good : (b : ℕ) → all (goodCard (getD w 3 0) (getD w 4 0) b) (bucket (decodeAs sh w) b) ≡ true
+  all-good : (b : ℕ) → all (goodCard (getD w maxpAt 0) (getD w pAt 0) b) (bucket (decodeAs sh w) b) ≡ true
   unfolding decodeAs
   all-good b =
-      let f = goodCard (getD w 3 0) (getD w 4 0) b in
+      let f = goodCard (getD w maxpAt 0) (getD w pAt 0) b in
       ⊎-elim (λ (h : b < bucketsIn w). rw (bucket-read sh w b h)
       (every-all f (map (readCard sh w) (bucketCells sh w b)) (map-every (λ c. f c ≡ true) (readCard sh w) (bucketCells sh w b) (in-every (λ i. f (readCard sh w i) ≡ true) (bucketCells sh w b) (λ i. card-good b i h)))))
       (λ (h : bucketsIn w ≤ b). rw (List·getD-eq-default (decodeAs sh w .buckets) [] {n = b} (omega (arith, length-table (readChain sh w) 0 (bucketsIn w))))) (lt? b (bucketsIn w))
@@ -376,7 +377,7 @@ module _ (sh : Shape) (w : List ℕ) (m : SoundAs sh w) where
   cards-held : Held w (cardsAt sh) (cardWidth sh) (cardChains (decodeAs sh w))
   unfolding decodeAs cardWord freeCells freeCell cardCell readCard
   cards-held zero =
-      led-stand (cardWord sh w) (cardWidth sh) (freeCell (cardWidth sh)) (λ i. refl) (getD w 7 0) (freeCells sh w) (m .freeChain)
+      led-stand (cardWord sh w) (cardWidth sh) (freeCell (cardWidth sh)) (λ i. refl) (getD w freeAt 0) (freeCells sh w) (m .freeChain)
       (in-every (Reads (cardWord sh w) (cardWidth sh) (freeCell (cardWidth sh))) (freeCells sh w) (λ i p. zero-reads (cardWord sh w) (cardWidth sh) i (λ k. m .freeZero i k p))) .0
   cards-held (suc b) =
       ⊎-elim (λ (h : b < bucketsIn w). subst (λ (l : List Cell). Stand (cellIn w (cardsAt sh) (cardWidth sh)) (cardWidth sh) (chained 0 l)) (sym (chain-cells sh w b h))
@@ -393,7 +394,7 @@ module _ (sh : Shape) (w : List ℕ) (m : SoundAs sh w) where
   faults-held : Held w (faultsAt sh) faultWidth (faultChains (decodeAs sh w))
   unfolding decodeAs faultWord freeFaultCells freeCell faultCell readFault
   faults-held zero =
-      led-stand (faultWord sh w) faultWidth (freeCell faultWidth) (λ i. refl) (getD w 8 0) (freeFaultCells sh w) (m .freeFaultChain)
+      led-stand (faultWord sh w) faultWidth (freeCell faultWidth) (λ i. refl) (getD w freeFaultsAt 0) (freeFaultCells sh w) (m .freeFaultChain)
       (in-every (Reads (faultWord sh w) faultWidth (freeCell faultWidth)) (freeFaultCells sh w) (λ i p. zero-reads (faultWord sh w) faultWidth i (λ k. m .freeFaultsZero i k p))) .0
   faults-held (suc j) =
       let P : List Cell → Type 0 = λ ch. Stand (cellIn w (faultsAt sh) faultWidth) faultWidth (chained 0 ch) in
@@ -403,7 +404,7 @@ module _ (sh : Shape) (w : List ℕ) (m : SoundAs sh w) where
       (subst (Every (λ c. P (g c))) (sym (cards-read sh w))
       (map-every (λ c. P (g c)) (readCard sh w) (heldCells sh w)
       (in-every (λ i. P (g (readCard sh w i))) (heldCells sh w) (λ i p. subst P (sym (history-cells sh w i))
-      (led-stand (faultWord sh w) faultWidth (faultOf sh w) (λ k. refl) (cardWord sh w i 6) (historyCells sh w i) (m .historyChain i p)
+      (led-stand (faultWord sh w) faultWidth (faultOf sh w) (λ k. refl) (cardWord sh w i toFirst) (historyCells sh w i) (m .historyChain i p)
       (in-every (Reads (faultWord sh w) faultWidth (faultOf sh w)) (historyCells sh w i) (λ k q. reads-fault k)) .0)))))) j
 
   -- the front
@@ -413,11 +414,11 @@ module _ (sh : Shape) (w : List ℕ) (m : SoundAs sh w) where
   header-read =
       let e₅ = m .cardsHeld ∙ sym (held-read sh w) in
       let e₆ = m .faultsHeld ∙ sym (filed-read sh w) in
-      let e₇ = led-first (nextCard sh w) (getD w 7 0) (freeCells sh w) (m .freeChain) in
-      let e₈ = led-first (nextFault sh w) (getD w 8 0) (freeFaultCells sh w) (m .freeFaultChain) in
+      let e₇ = led-first (nextCard sh w) (getD w freeAt 0) (freeCells sh w) (m .freeChain) in
+      let e₈ = led-first (nextFault sh w) (getD w freeFaultsAt 0) (freeFaultCells sh w) (m .freeFaultChain) in
       sym (take-table 0 directoryAt 0 w (omega (arith, m .wholeLength)))
-      ∙ (λ t. m .formatWord t ∷ m .limitWord t ∷ m .faultLimitWord t ∷ getD w 3 0 ∷ getD w 4 0 ∷ e₅ t ∷ e₆ t ∷ e₇ t ∷ e₈ t
-      ∷ m .directoryOffset t ∷ m .segmentsOffset t ∷ m .cardsOffset t ∷ m .faultsOffset t ∷ m .lengthWord t ∷ m .word14 t ∷ m .word15 t ∷ [])
+      ∙ (λ t. m .formatWord t ∷ m .limitWord t ∷ m .faultLimitWord t ∷ getD w maxpAt 0 ∷ getD w pAt 0 ∷ e₅ t ∷ e₆ t ∷ e₇ t ∷ e₈ t
+      ∷ m .directoryOffset t ∷ m .segmentsOffset t ∷ m .cardsOffset t ∷ m .faultsOffset t ∷ m .lengthWord t ∷ m .bounds t ∷ m .rule t ∷ [])
 
   directory-read : take (entries sh) (drop directoryAt w) ≡ directory (decodeAs sh w)
   unfolding decodeAs directory lengthFor faultsAt cardsAt
@@ -462,8 +463,8 @@ module _ (sh : Shape) (w : List ℕ) (m : SoundAs sh w) where
       let n = m .cardsHeld ∙ sym (held-read sh w) in
       is-load (decodeAs sh w) (record {
         fair = fair-read;
-        high = λ l. ⊎-elim (λ (e : bucketsIn w ≡ topOf sh). absurd (omega arith)) (λ (e : getD w 5 0 ≤ sh .upper * bucketsIn w). omega arith) (m .notOver);
-        low = λ l. ⊎-elim (λ (e : bucketsIn w ≡ least). absurd (omega arith)) (λ (e : sh .lower * bucketsIn w ≤ getD w 5 0). omega arith) (m .notUnder);
+        high = λ l. ⊎-elim (λ (e : bucketsIn w ≡ topOf sh). absurd (omega arith)) (λ (e : getD w heldAt 0 ≤ sh .upper * bucketsIn w). omega arith) (m .notOver);
+        low = λ l. ⊎-elim (λ (e : bucketsIn w ≡ least). absurd (omega arith)) (λ (e : sh .lower * bucketsIn w ≤ getD w heldAt 0). omega arith) (m .notUnder);
       })
 
   pub means-rep : Rep w (decodeAs sh w)
@@ -475,17 +476,17 @@ sound-means w = (λ e. let h = sound-is w e in rep-means (shapeOf w) w (h .0) (h
 
 -- a serial that stands twice stands twice in one bucket: equal serials have equal addresses
 pub apart-in-buckets : (sh : Shape) (w : List ℕ)
-    → ((b i : ℕ) → b < bucketsIn w → In i (bucketCells sh w b) → addressOf (codeOf (serialIn sh w i)) (getD w 3 0) (getD w 4 0) ≡ b)
+    → ((b i : ℕ) → b < bucketsIn w → In i (bucketCells sh w b) → addressOf (codeOf (serialIn sh w i)) (getD w maxpAt 0) (getD w pAt 0) ≡ b)
     → ((b i j : ℕ) → b < bucketsIn w → In i (bucketCells sh w b) → In j (bucketCells sh w b) → serialIn sh w i ≡ serialIn sh w j → i ≡ j)
     → (i j : ℕ) → In i (heldCells sh w) → In j (heldCells sh w) → serialIn sh w i ≡ serialIn sh w j → i ≡ j
 apart-in-buckets sh w addressed one i j p q e =
     let (a, k, x) = in-bucket sh w i p in
     let (b, l, y) = in-bucket sh w j q in
-    let d : b ≡ a = sym (addressed b j l y) ∙ ap (λ (s : List ℕ). addressOf (codeOf s) (getD w 3 0) (getD w 4 0)) (sym e) ∙ addressed a i k x in
+    let d : b ≡ a = sym (addressed b j l y) ∙ ap (λ (s : List ℕ). addressOf (codeOf s) (getD w maxpAt 0) (getD w pAt 0)) (sym e) ∙ addressed a i k x in
     one a i j k x (subst (λ (c : ℕ). In j (bucketCells sh w c)) d y) e
 
 -- the histories of all card cells are those of the cards: a free cell has none
-pub filed-by-cell : (sh : Shape) (w : List ℕ) → ExactlyOnce (sh .limit) (freeCells sh w ++ heldCells sh w) → ((i : ℕ) → In i (freeCells sh w) → cardWord sh w i 6 ≡ 0)
+pub filed-by-cell : (sh : Shape) (w : List ℕ) → ExactlyOnce (sh .limit) (freeCells sh w ++ heldCells sh w) → ((i : ℕ) → In i (freeCells sh w) → cardWord sh w i toFirst ≡ 0)
     → (f : ℕ → ℕ) → total f (join (map (historyCells sh w) (from 1 (sh .limit)))) ≡ total f (filedCells sh w)
 unfolding filedCells historyCells follow
 filed-by-cell sh w r z f =
@@ -495,10 +496,10 @@ filed-by-cell sh w r z f =
       total-flat f (historyCells sh w) (from 1 (sh .limit)),
       once-total (sh .limit) (freeCells sh w ++ heldCells sh w) r g,
       total-append g (freeCells sh w) (heldCells sh w),
-      none (freeCells sh w) (in-every (λ i. cardWord sh w i 6 ≡ 0) (freeCells sh w) z),
+      none (freeCells sh w) (in-every (λ i. cardWord sh w i toFirst ≡ 0) (freeCells sh w) z),
       total-flat f (historyCells sh w) (heldCells sh w),
     )
   where
-    none : (l : List ℕ) → Every (λ i. cardWord sh w i 6 ≡ 0) l → total (λ i. total f (historyCells sh w i)) l ≡ 0
+    none : (l : List ℕ) → Every (λ i. cardWord sh w i toFirst ≡ 0) l → total (λ i. total f (historyCells sh w i)) l ≡ 0
     none [] e = refl
-    none (i ∷ l) e = omega (arith, ap (total f) (follow-none (sh .faultLimit) (nextFault sh w) (cardWord sh w i 6) (e .0)), none l (e .1))
+    none (i ∷ l) e = omega (arith, ap (total f) (follow-none (sh .faultLimit) (nextFault sh w) (cardWord sh w i toFirst) (e .0)), none l (e .1))

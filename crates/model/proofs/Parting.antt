@@ -13,6 +13,7 @@ use lib.Seq.{getD-set-same, getD-set-other}
 use Rattle.rules.proofs.Tests.{eq?}
 use Rattle.model.specs.Lists.{join}
 use Rattle.model.specs.Shape.{Shape, entries, topOf}
+use Rattle.model.specs.Layout.{toNext}
 use Rattle.model.specs.Layout.{Cell, headOr, chained, atsOf, cellAt, cardWidth, segmentsAt, cardsAt, last}
 use Rattle.model.specs.Words.{cardAt, linkAt}
 use Rattle.model.proofs.Sums.{bit, bit-same, total-append}
@@ -95,17 +96,17 @@ module _ (sh : Shape) (m p n k i j : ℕ) (dir : List ℕ) (fits : length dir �
         }
 
     -- the last cell's next word is set
-    end-behind : (xs : List Cell) (y : Cell) → K ≡ xs ++ (y ∷ []) → (1 ≤ y .at) × After (cardAt sh (y .at) 0) g
+    end-behind : (xs : List Cell) (y : Cell) → K ≡ xs ++ (y ∷ []) → (1 ≤ y .at) × After (cardAt sh (y .at) toNext) g
     end-behind xs y e = (
       y-in .0,
       record {
-        whole = card-loose w sh _ others faults (r .whole) (y .at) 0 v (y-in .0) (y-in .1) (in-card sh (lit< tt)) (omega (arith, r .once (y .at), count (y .at), bit-same (y .at) (y .at) refl));
+        whole = card-loose w sh _ others faults (r .whole) (y .at) toNext v (y-in .0) (y-in .1) (in-card sh (lit< tt)) (omega (arith, r .once (y .at), count (y .at), bit-same (y .at) (y .at) refl));
         long = r .long;
         same = r .same;
         headK = r .headK ∙ ap (headOr t) e ∙ heads xs ∙ ap (headOr v) (sym e);
         cellsK = subst (λ (l : List Cell). Stand new (cardWidth sh) (chained v l)) (sym e)
             (chain-retarget (cardWidth sh) new old t v xs y (omega (arith, r .once (y .at), count (y .at), bit-same (y .at) (y .at) refl))
-            (write-here w (cardsAt sh) (cardWidth sh) (y .at) 0 v (omega (arith, cards-fit w sh _ others faults (r .whole), cellAt-below (cardsAt sh) (cardWidth sh) (sh .limit) (y .at) 0 (y-in .0) (y-in .1) (in-card sh (lit< tt)))))
+            (write-here w (cardsAt sh) (cardWidth sh) (y .at) toNext v (omega (arith, cards-fit w sh _ others faults (r .whole), cellAt-below (cardsAt sh) (cardWidth sh) (sh .limit) (y .at) toNext (y-in .0) (y-in .1) (in-card sh (lit< tt)))))
             agrees (subst (λ (l : List Cell). Stand old (cardWidth sh) (chained t l)) e (r .cellsK)));
         headG = r .headG;
         cellsG = keeps u G (λ x h. r .inside x (omega arith) .0) (omega (arith, r .once (y .at), count (y .at), bit-same (y .at) (y .at) refl)) (r .cellsG);
@@ -116,7 +117,7 @@ module _ (sh : Shape) (m p n k i j : ℕ) (dir : List ℕ) (fits : length dir �
     )
       where
         new : Memory
-        new = cellIn (set w (cardAt sh (y .at) 0) v) (cardsAt sh) (cardWidth sh)
+        new = cellIn (set w (cardAt sh (y .at) toNext) v) (cardsAt sh) (cardWidth sh)
 
         old : Memory
         old = cellIn w (cardsAt sh) (cardWidth sh)
@@ -132,7 +133,7 @@ module _ (sh : Shape) (m p n k i j : ℕ) (dir : List ℕ) (fits : length dir �
         heads (x ∷ l) = refl
 
         other : (x l : ℕ) → 1 ≤ x → l < (cardWidth sh) → (x ≡ y .at → ⊥) → new x l ≡ old x l
-        other x l a q z = write-cell w (cardsAt sh) (cardWidth sh) (y .at) x 0 l v (y-in .0) a (in-card sh (lit< tt)) q z
+        other x l a q z = write-cell w (cardsAt sh) (cardWidth sh) (y .at) x toNext l v (y-in .0) a (in-card sh (lit< tt)) q z
 
         agrees : (x l : ℕ) → (x ≡ y .at → ⊥) ⊎ (0 < l) → 0 < many x (xs ++ (y ∷ [])) → l < (cardWidth sh) → new x l ≡ old x l
         agrees x l z h q =

@@ -12,6 +12,7 @@ use lib.Seq.{sets}
 use Rattle.model.specs.Lists.{join}
 use Rattle.model.specs.Serial.{serialOk}
 use Rattle.model.specs.Model.{Store, Card, cards, held, faultsHeld, addressIn, chainFor, cellsOf, newCard, placed}
+use Rattle.model.specs.Layout.{heldAt, freeAt, toNext}
 use Rattle.model.specs.Layout.{Cell, cardWidth, faultWidth, segmentsAt, cardsAt, faultsAt, cardCell, freeCell, cardChains, faultChains, header, directory, segments, front, first, last, cardWord}
 use Rattle.model.specs.Words.{cardAt, linkAt, newWords, placeWords}
 use Rattle.model.proofs.Lists.{map-append, map-set, every-set, every-append, every-join}
@@ -21,7 +22,7 @@ use Rattle.model.proofs.Places.{cellAt-end}
 use Rattle.model.proofs.Chains.{Stands}
 use Rattle.model.proofs.Part.{cellIn, Held}
 use Rattle.model.proofs.Writes.{Apart, cell-here}
-use Rattle.model.proofs.Shapes.{in-card}
+use Rattle.model.proofs.Shapes.{in-card, new-fills}
 use Rattle.model.proofs.Fair.{one, filings, card-count, faults-total}
 use Rattle.model.proofs.Rep.{Rep, directory-length, size-top}
 use Rattle.model.proofs.Readings.{held-at, free-at}
@@ -45,7 +46,7 @@ module _ (w : List ℕ) (s : Store) (r : Rep w s) (y : List ℕ) (v : serialOk y
   some : 0 < length (s .free)
   some = omega (arith, r .fair .cells .count, card-count s)
 
-  next-free : cardWord (s .shape) w new 0 ≡ first later
+  next-free : cardWord (s .shape) w new toNext ≡ first later
   unfolding cardWord
   next-free = taken-next w (cardsAt (s .shape)) (cardWidth (s .shape)) (s .shape .limit) (s .free) buckets (in-card (s .shape) (lit< tt)) some (r .fair .cells) (r .cards)
 
@@ -57,10 +58,10 @@ module _ (w : List ℕ) (s : Store) (r : Rep w s) (y : List ℕ) (v : serialOk y
 
   -- the cell is taken and filled
   taken : List ℕ
-  taken = set w 7 (first later)
+  taken = set w freeAt (first later)
 
   filled : List ℕ
-  filled = sets taken (cardAt (s .shape) new 0) (newWords y)
+  filled = sets taken (cardAt (s .shape) new toNext) (newWords y)
 
   abbrev fronts : ℕ → List ℕ → List ℕ
   fronts n g = fronted (s .shape) (s .maxp) (s .p) n (faultsHeld s) (first later) (first (s .freeFaults)) (directory s) g
@@ -71,16 +72,18 @@ module _ (w : List ℕ) (s : Store) (r : Rep w s) (y : List ℕ) (v : serialOk y
       front-write w (s .shape) (front s) (map (freeCell (cardWidth (s .shape))) later ∷ buckets) (faultChains s)
       (card-chain w (s .shape) (front s) (cardChains s) (faultChains s) (rep-whole r) 0 (map (freeCell (cardWidth (s .shape))) later) (omega arith)
       (taken-apart w (cardsAt (s .shape)) (cardWidth (s .shape)) (s .shape .limit) (s .free) buckets (in-card (s .shape) (lit< tt)) some (r .fair .cells) (r .cards))
-      (taken-rest w (cardsAt (s .shape)) (cardWidth (s .shape)) (s .shape .limit) (s .free) buckets (in-card (s .shape) (lit< tt)) some (r .fair .cells) (r .cards))) 7 (first later) (omega arith)
+      (taken-rest w (cardsAt (s .shape)) (cardWidth (s .shape)) (s .shape .limit) (s .free) buckets (in-card (s .shape) (lit< tt)) some (r .fair .cells) (r .cards))) freeAt (first later) (omega arith)
 
   filled-whole : Whole filled (s .shape) (fronts (held s) (segments s)) (map (freeCell (cardWidth (s .shape))) later ∷ buckets) (faultChains s)
-  unfolding filled newWords cardWidth
-  filled-whole = card-fill taken (s .shape) _ _ _ taken-whole new (newWords y) (new-in .0) (new-in .1) refl new-none
+  unfolding filled
+  filled-whole = card-fill taken (s .shape) _ _ _ taken-whole new (newWords y) (new-in .0) (new-in .1) (new-fills (s .shape) y) new-none
 
   new-stands : Stands (cellIn filled (cardsAt (s .shape)) (cardWidth (s .shape))) (cardWidth (s .shape)) (record { at = new; words = 0 ∷ cardCell (newCard s y) .words })
-  unfolding filled newWords cardCell last cardWidth
+  unfolding filled newWords cardCell last
   new-stands k l =
-      cell-here taken (cardsAt (s .shape)) (cardWidth (s .shape)) new k (newWords y) (omega (arith, cards-fit taken (s .shape) _ _ _ taken-whole, cellAt-end (cardsAt (s .shape)) (cardWidth (s .shape)) (s .shape .limit) new (new-in .0) (new-in .1))) l
+      let f = new-fills (s .shape) y in
+      cell-here taken (cardsAt (s .shape)) (cardWidth (s .shape)) new k (newWords y)
+      (omega (arith, f, cards-fit taken (s .shape) _ _ _ taken-whole, cellAt-end (cardsAt (s .shape)) (cardWidth (s .shape)) (s .shape .limit) new (new-in .0) (new-in .1))) (omega (arith, f, l))
 
   -- the chains and the front afterwards
 
@@ -114,7 +117,7 @@ module _ (w : List ℕ) (s : Store) (r : Rep w s) (y : List ℕ) (v : serialOk y
       (card-chain filled (s .shape) _ _ _ filled-whole (suc a) (cardCell (newCard s y) ∷ []) (omega (arith, below, length-map (s .buckets) (map cardCell))) (chains-apart (cardCell (newCard s y) ∷ []) ch) (new-stands, tt)))
       (segmentsAt (s .shape) + a) new (omega (arith, below, r .fair .number, size-top s (r .fair))))
 
-  linked-behind : (xs : List Card) (x : Card) → chainFor s y ≡ xs ++ (x ∷ []) → (1 ≤ x .at) × Linked (cardAt (s .shape) (x .at) 0)
+  linked-behind : (xs : List Card) (x : Card) → chainFor s y ≡ xs ++ (x ∷ []) → (1 ≤ x .at) × Linked (cardAt (s .shape) (x .at) toNext)
   unfolding placed cardCell segments
   linked-behind xs x e =
       let cs = map (freeCell (cardWidth (s .shape))) later ∷ buckets in
@@ -124,9 +127,9 @@ module _ (w : List ℕ) (s : Store) (r : Rep w s) (y : List ℕ) (v : serialOk y
       let q = card-behind filled (s .shape) _ cs _ filled-whole (suc a) (map cardCell xs) (cardCell x) (cardCell (newCard s y)) (new-in .0)
       (omega (arith, below, length-map (s .buckets) (map cardCell))) (List·getD-map (map cardCell) (s .buckets) a [] ∙ old) new-none new-stands (chains-apart _ ch) in (
         q .0,
-        subst (λ (fr : List ℕ). Whole (set filled (cardAt (s .shape) (x .at) 0) new) (s .shape) fr (cardChains (placed s y)) (faultChains s))
+        subst (λ (fr : List ℕ). Whole (set filled (cardAt (s .shape) (x .at) toNext) new) (s .shape) fr (cardChains (placed s y)) (faultChains s))
             (ap (fronts (held s)) (segments-kept s a (chainFor s y ++ (newCard s y ∷ [])) (ap (λ (l : List Card). first (cellsOf (l ++ (newCard s y ∷ [])))) e ∙ keeps xs ∙ ap (λ (l : List Card). first (cellsOf l)) (sym e))))
-            (subst (λ (cs : List (List Cell)). Whole (set filled (cardAt (s .shape) (x .at) 0) new) (s .shape) (fronts (held s) (segments s)) cs (faultChains s)) (chains-placed _ ch) (q .1)),
+            (subst (λ (cs : List (List Cell)). Whole (set filled (cardAt (s .shape) (x .at) toNext) new) (s .shape) (fronts (held s) (segments s)) cs (faultChains s)) (chains-placed _ ch) (q .1)),
       )
     where
       keeps : (l : List Card) → first (cellsOf (l ++ (x ∷ []) ++ (newCard s y ∷ []))) ≡ first (cellsOf (l ++ (x ∷ [])))
@@ -156,13 +159,13 @@ module _ (w : List ℕ) (s : Store) (r : Rep w s) (y : List ℕ) (v : serialOk y
       (every-set (Recorded u (s .shape)) (s .buckets) a (chainFor s y ++ (newCard s y ∷ [])) old
       (every-append (Recorded u (s .shape)) (chainFor s y) (newCard s y ∷ []) (every-join (Recorded u (s .shape)) (s .buckets) old a) (tt, tt)))
 
-  written : placeWords (s .shape) w a (last (cellsOf (chainFor s y))) y ≡ set (set filled (linkAt (s .shape) a (last (cellsOf (chainFor s y)))) new) 5 (held s + 1)
+  written : placeWords (s .shape) w a (last (cellsOf (chainFor s y))) y ≡ set (set filled (linkAt (s .shape) a (last (cellsOf (chainFor s y)))) new) heldAt (held s + 1)
   unfolding placeWords taken filled
   written =
       let i = free-at w s r in
-      let next = ap (λ (i : ℕ). cardWord (s .shape) w i 0) i ∙ next-free in
+      let next = ap (λ (i : ℕ). cardWord (s .shape) w i toNext) i ∙ next-free in
       let n = held-at w s r in
-      λ t. set (set (sets (set w 7 (next t)) (cardAt (s .shape) (i t) 0) (newWords y)) (linkAt (s .shape) a (last (cellsOf (chainFor s y)))) (i t)) 5 (n t + 1)
+      λ t. set (set (sets (set w freeAt (next t)) (cardAt (s .shape) (i t) toNext) (newWords y)) (linkAt (s .shape) a (last (cellsOf (chainFor s y)))) (i t)) heldAt (n t + 1)
 
   pub rep-placed : Rep (placeWords (s .shape) w a (last (cellsOf (chainFor s y))) y) (placed s y)
   unfolding placed front header directory cardsAt
@@ -171,5 +174,5 @@ module _ (w : List ℕ) (s : Store) (r : Rep w s) (y : List ℕ) (v : serialOk y
       subst (λ (u : List ℕ). Rep u (placed s y)) (sym written)
       (whole-rep (placed-fair s (r .fair) y v none room)
       (λ t. fronted (s .shape) (s .maxp) (s .p) (held-placed t) (faults-placed t) (first later) (first (s .freeFaults)) (directory s) (segments (placed s y)))
-      refl (recorded-placed (set u 5 (held s + 1)))
-      (front-write u (s .shape) _ _ _ linked 5 (held s + 1) (omega arith)))
+      refl (recorded-placed (set u heldAt (held s + 1)))
+      (front-write u (s .shape) _ _ _ linked heldAt (held s + 1) (omega arith)))

@@ -10,6 +10,7 @@ use lib.ListN.{length, getD}
 use Rattle.model.specs.Serial.{serialOk}
 use Rattle.model.specs.Shape.{Shape}
 use Rattle.model.specs.Model.{Store, Card, cards, held, faultsHeld, bucket, cellsOf, faultCellsOf}
+use Rattle.model.specs.Layout.{maxpAt, pAt, heldAt, faultsHeldAt, freeAt, freeFaultsAt, toNext, toLength, toSerial, toFirst, toLast, toCount}
 use Rattle.model.specs.Layout.{Cell, headOr, chained, cardWidth, segmentsAt, cardsAt, cardCell, header, front, first, last, cardWord, readCard, readChain}
 use Rattle.model.specs.Meaning.{bucketWord, bucketCells, serialIn, bytesIn}
 use Rattle.model.proofs.Lists.{map-append, Every}
@@ -42,33 +43,33 @@ stand-at width word xs x ys r = stand-parts width word (chained (x .at) xs) (cha
 pub serial-stands : (sh : Shape) (w : List ℕ) (t : ℕ) (x : Card) → serialOk (x .serial) ≡ true
     → Stands (cellIn w (cardsAt sh) (cardWidth sh)) (cardWidth sh) (record { at = x .at; words = t ∷ cardCell x .words }) → serialIn sh w (x .at) ≡ x .serial
 unfolding serialIn bytesIn cardWord cardCell
-serial-stands sh w t x v q = serial-read _ _ _ _ _ (x .serial) v (q 1 (in-card sh (lit< tt))) (q 2 (in-card sh (lit< tt))) (q 3 (in-card sh (lit< tt))) (q 4 (in-card sh (lit< tt))) (q 5 (in-card sh (lit< tt)))
+serial-stands sh w t x v q = serial-read _ _ _ _ _ (x .serial) v (q toLength (in-card sh (lit< tt))) (q toSerial (in-card sh (lit< tt))) (q (toSerial + 1) (in-card sh (lit< tt))) (q (toSerial + 2) (in-card sh (lit< tt))) (q (toSerial + 3) (in-card sh (lit< tt)))
 
 module _ (w : List ℕ) (s : Store) (r : Rep w s) where
   -- the header
-  pub maxp-at : getD w 3 0 ≡ s .maxp
+  pub maxp-at : getD w maxpAt 0 ≡ s .maxp
   unfolding front header
-  maxp-at = rep-head r 3 (lit< tt)
+  maxp-at = rep-head r maxpAt (lit< tt)
 
-  pub p-at : getD w 4 0 ≡ s .p
+  pub p-at : getD w pAt 0 ≡ s .p
   unfolding front header
-  p-at = rep-head r 4 (lit< tt)
+  p-at = rep-head r pAt (lit< tt)
 
-  pub held-at : getD w 5 0 ≡ held s
+  pub held-at : getD w heldAt 0 ≡ held s
   unfolding front header
-  held-at = rep-head r 5 (lit< tt)
+  held-at = rep-head r heldAt (lit< tt)
 
-  pub faults-held-at : getD w 6 0 ≡ faultsHeld s
+  pub faults-held-at : getD w faultsHeldAt 0 ≡ faultsHeld s
   unfolding front header
-  faults-held-at = rep-head r 6 (lit< tt)
+  faults-held-at = rep-head r faultsHeldAt (lit< tt)
 
-  pub free-at : getD w 7 0 ≡ first (s .free)
+  pub free-at : getD w freeAt 0 ≡ first (s .free)
   unfolding front header
-  free-at = rep-head r 7 (lit< tt)
+  free-at = rep-head r freeAt (lit< tt)
 
-  pub free-faults-at : getD w 8 0 ≡ first (s .freeFaults)
+  pub free-faults-at : getD w freeFaultsAt 0 ≡ first (s .freeFaults)
   unfolding front header
-  free-faults-at = rep-head r 8 (lit< tt)
+  free-faults-at = rep-head r freeFaultsAt (lit< tt)
 
   -- a bucket
   pub bucket-at : (b : ℕ) → b < length (s .buckets) → bucketWord (s .shape) w b ≡ first (cellsOf (bucket s b))
@@ -89,18 +90,18 @@ module _ (w : List ℕ) (s : Store) (r : Rep w s) where
         stand-at (cardWidth (s .shape)) (cellIn w (cardsAt (s .shape)) (cardWidth (s .shape))) (map cardCell xs) (cardCell x) (map cardCell ys)
         (subst (λ (l : List Cell). Stand (cellIn w (cardsAt (s .shape)) (cardWidth (s .shape))) (cardWidth (s .shape)) (chained 0 l)) (cards-at w s r b ∙ ap (map cardCell) e ∙ map-append cardCell xs (x ∷ ys)) (r .cards (suc b)))
 
-    pub next-at : cardWord (s .shape) w (x .at) 0 ≡ first (cellsOf ys)
+    pub next-at : cardWord (s .shape) w (x .at) toNext ≡ first (cellsOf ys)
     unfolding cardWord cardCell
-    next-at = card-stands 0 (in-card (s .shape) (lit< tt)) ∙ sym (head-cards ys)
+    next-at = card-stands toNext (in-card (s .shape) (lit< tt)) ∙ sym (head-cards ys)
 
-    pub first-fault-at : cardWord (s .shape) w (x .at) 6 ≡ first (faultCellsOf (x .faults))
+    pub first-fault-at : cardWord (s .shape) w (x .at) toFirst ≡ first (faultCellsOf (x .faults))
     unfolding cardWord cardCell
-    first-fault-at = card-stands 6 (in-card (s .shape) (lit< tt))
+    first-fault-at = card-stands toFirst (in-card (s .shape) (lit< tt))
 
-    pub last-fault-at : cardWord (s .shape) w (x .at) 7 ≡ last (faultCellsOf (x .faults))
+    pub last-fault-at : cardWord (s .shape) w (x .at) toLast ≡ last (faultCellsOf (x .faults))
     unfolding cardWord cardCell
-    last-fault-at = card-stands 7 (in-card (s .shape) (lit< tt))
+    last-fault-at = card-stands toLast (in-card (s .shape) (lit< tt))
 
-    pub fault-count-at : cardWord (s .shape) w (x .at) 8 ≡ length (faultCellsOf (x .faults))
+    pub fault-count-at : cardWord (s .shape) w (x .at) toCount ≡ length (faultCellsOf (x .faults))
     unfolding cardWord cardCell
-    fault-count-at = card-stands 8 (in-card (s .shape) (lit< tt))
+    fault-count-at = card-stands toCount (in-card (s .shape) (lit< tt))

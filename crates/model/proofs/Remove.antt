@@ -12,6 +12,7 @@ use lib.Seq.{sets, set-getD}
 use borrow.Author.Tests.{ne-eqb}
 use Rattle.model.specs.Lists.{join, total}
 use Rattle.model.specs.Model.{Store, Card, Fault, cards, histories, held, faultsHeld, addressIn, chainFor, before, without, cellsOf, faultCellsOf, removed}
+use Rattle.model.specs.Layout.{heldAt, faultsHeldAt, freeAt, freeFaultsAt, toNext}
 use Rattle.model.specs.Layout.{Cell, headOr, chained, cardWidth, faultWidth, segmentsAt, cardsAt, faultsAt, cardCell, faultCell, freeCell, cardChains, faultChains, header, directory, segments, front, first, last}
 use Rattle.model.specs.Words.{cardAt, faultAt, linkAt, clearWords, giveWords, removeWords}
 use Rattle.model.proofs.Lists.{map-append, map-set, Every, every-append, every-parts, at-every, every-map}
@@ -21,7 +22,7 @@ use Rattle.model.proofs.Places.{cellAt-end}
 use Rattle.model.proofs.Chains.{Stands, Stand, stand-parts, chained-append}
 use Rattle.model.proofs.Part.{cellIn, Held}
 use Rattle.model.proofs.Writes.{Apart, cell-here}
-use Rattle.model.proofs.Shapes.{width-nine}
+use Rattle.model.proofs.Shapes.{width-least}
 use Rattle.model.proofs.Fair.{one, filings, faultIn, fault-cells, fault-count, faults-total}
 use Rattle.model.proofs.Rep.{directory-length, Rep, size-top}
 use Rattle.model.proofs.Decode.{limit-at, fault-limit-at, cards-at, head-cards, head-free}
@@ -93,21 +94,21 @@ module _ (w : List ℕ) (s : Store) (r : Rep w s) (y : List ℕ) (p : Present y 
       (subst (λ (l : List (List Cell)). Whole w (s .shape) (front s) (cardChains s) (map (freeCell faultWidth) (s .freeFaults) ∷ l))
       (sym (ap (set records (length left)) (sym (history-get (cards s) left card right cards-is)) ∙ set-getD records (length left) [])) (rep-whole r))
 
-  given-some : (xs : List ℕ) (z : ℕ) → fs ≡ xs ++ (z ∷ []) → Given (set (set (clearWords (s .shape .faultLimit) (s .shape) w (first fs)) (faultAt (s .shape) z 0) (first (s .freeFaults))) 8 (first fs))
+  given-some : (xs : List ℕ) (z : ℕ) → fs ≡ xs ++ (z ∷ []) → Given (set (set (clearWords (s .shape .faultLimit) (s .shape) w (first fs)) (faultAt (s .shape) z toNext) (first (s .freeFaults))) freeFaultsAt (first fs))
   unfolding front header cardsAt
   given-some xs z e =
       let F = freeCell faultWidth in
       let u = clearWords (s .shape .faultLimit) (s .shape) w (first fs) in
-      let v = set u (faultAt (s .shape) z 0) (first (s .freeFaults)) in
+      let v = set u (faultAt (s .shape) z toNext) (first (s .freeFaults)) in
       let ch : map F fs ≡ map F xs ++ (F z ∷ []) = ap (map F) e ∙ map-append F xs (z ∷ []) in
       let all : map F xs ++ (F z ∷ []) ++ map F (s .freeFaults) ≡ map F (fs ++ s .freeFaults) = ap (λ (l : List Cell). l ++ map F (s .freeFaults)) (sym ch) ∙ sym (map-append F fs (s .freeFaults)) in
       let head : first fs ≡ first (fs ++ s .freeFaults) = ap first e ∙ keeps xs ∙ ap (λ (l : List ℕ). first (l ++ s .freeFaults)) (sym e) in
-      subst (λ (i : ℕ). Whole (set v 8 (first fs)) (s .shape) (fronts (held s) (faultsHeld s) (first (s .free)) i (segments s)) (cardChains s) (map F (fs ++ s .freeFaults) ∷ set records (length left) [])) head
+      subst (λ (i : ℕ). Whole (set v freeFaultsAt (first fs)) (s .shape) (fronts (held s) (faultsHeld s) (first (s .free)) i (segments s)) (cardChains s) (map F (fs ++ s .freeFaults) ∷ set records (length left) [])) head
       (front-write v (s .shape) (front s) (cardChains s) _
       (subst (λ (l : List Cell). Whole v (s .shape) (front s) (cardChains s) (l ∷ set records (length left) [])) all
       (joined (s .shape) (front s) (cardChains s) records (length left) (history-below (cards s) left card right cards-is) (s .freeFaults) xs z u
       (subst (λ (l : List Cell). Whole u (s .shape) (front s) (cardChains s) (map F (s .freeFaults) ∷ set records (length left) l)) ch cleared-whole)))
-      8 (first fs) (omega arith))
+      freeFaultsAt (first fs) (omega arith))
     where
       keeps : (l : List ℕ) → first (l ++ (z ∷ [])) ≡ first (l ++ (z ∷ []) ++ s .freeFaults)
       keeps [] = refl
@@ -141,7 +142,7 @@ module _ (w : List ℕ) (s : Store) (r : Rep w s) (y : List ℕ) (p : Present y 
           let l : last fs ≡ z .at = last-at (λ (f : Fault). f .at) (card .faults) xs z e in
           let i = free-faults-at w s r in
           subst Given (sym (rw (ne-eqb (first fs) 0 (omega (arith, first-fault (faultCellsOf xs) (z .at) e₁)))
-          (λ t. set (set (clearWords (s .shape .faultLimit) (s .shape) w (first fs)) (faultAt (s .shape) (l t) 0) (i t)) 8 (first fs)))) (given-some (faultCellsOf xs) (z .at) e₁)
+          (λ t. set (set (clearWords (s .shape .faultLimit) (s .shape) w (first fs)) (faultAt (s .shape) (l t) toNext) (i t)) freeFaultsAt (first fs)))) (given-some (faultCellsOf xs) (z .at) e₁)
 
   -- the card is left out of its chain
 
@@ -199,7 +200,7 @@ module _ (w : List ℕ) (s : Store) (r : Rep w s) (y : List ℕ) (p : Present y 
       (subst (λ (l : List Cell). Stand (cellIn given (cardsAt (s .shape)) (cardWidth (s .shape))) (cardWidth (s .shape)) (chained 0 l)) (sym after) (stand .1)))
       (segmentsAt (s .shape) + a) (first (cellsOf (p .after))) (omega (arith, below, r .fair .number, size-top s (r .fair))))
 
-  unlinked-behind : (xs : List Card) (z : Card) → prior ≡ xs ++ (z ∷ []) → (1 ≤ z .at) × Unlinked (cardAt (s .shape) (z .at) 0)
+  unlinked-behind : (xs : List Card) (z : Card) → prior ≡ xs ++ (z ∷ []) → (1 ≤ z .at) × Unlinked (cardAt (s .shape) (z .at) toNext)
   unfolding removed segments cardCell
   unlinked-behind xs z e =
       let zs = map cardCell (p .after) in
@@ -220,10 +221,10 @@ module _ (w : List ℕ) (s : Store) (r : Rep w s) (y : List ℕ) (p : Present y 
       let head : first (cellsOf (without y (chainFor s y))) ≡ first (cellsOf (chainFor s y)) =
       ap (λ (l : List Card). first (cellsOf l)) (p .without-it ∙ ap (λ (l : List Card). l ++ p .after) e) ∙ keeps xs ∙ ap (λ (l : List Card). first (cellsOf l)) (sym (p .parts ∙ ap (λ (l : List Card). l ++ (card ∷ p .after)) e)) in (
         r .fair .cells .inside (z .at) (omega (arith, parts (z .at), bit-same (z .at) (z .at) refl)) .0,
-        subst (λ (fr : List ℕ). Whole (set given (cardAt (s .shape) (z .at) 0) (first (cellsOf (p .after)))) (s .shape) fr (set (cardChains s) (suc a) rest) faults₁)
+        subst (λ (fr : List ℕ). Whole (set given (cardAt (s .shape) (z .at) toNext) (first (cellsOf (p .after)))) (s .shape) fr (set (cardChains s) (suc a) rest) faults₁)
             (ap (fronts (held s) (faultsHeld s) (first (s .free)) (first (fs ++ s .freeFaults))) (segments-kept s a (without y (chainFor s y)) head))
-            (subst (λ (v : ℕ). Whole (set given (cardAt (s .shape) (z .at) 0) v) (s .shape) front₁ (set (cardChains s) (suc a) rest) faults₁) (sym (head-cards (p .after)))
-            (subst (λ (l : List Cell). Whole (set given (cardAt (s .shape) (z .at) 0) (headOr 0 zs)) (s .shape) front₁ (set (cardChains s) (suc a) l) faults₁) now
+            (subst (λ (v : ℕ). Whole (set given (cardAt (s .shape) (z .at) toNext) v) (s .shape) front₁ (set (cardChains s) (suc a) rest) faults₁) (sym (head-cards (p .after)))
+            (subst (λ (l : List Cell). Whole (set given (cardAt (s .shape) (z .at) toNext) (headOr 0 zs)) (s .shape) front₁ (set (cardChains s) (suc a) l) faults₁) now
             (card-cut given (s .shape) _ (cardChains s) _ given-whole (suc a) (map cardCell xs) (cardCell z) (cardCell card ∷ zs) below-chains g zs
             (λ i q. r .fair .cells .inside i (omega (arith, parts i)) .0) (omega (arith, parts (z .at), r .fair .cells .once (z .at), bit-same (z .at) (z .at) refl)) (stand .1 .1)
             (subst (λ (l : List Cell). Apart (s .shape .limit) (join (set (cardChains s) (suc a) l))) (sym now) rest-apart)))),
@@ -249,10 +250,10 @@ module _ (w : List ℕ) (s : Store) (r : Rep w s) (y : List ℕ) (p : Present y 
   zeros = first (s .free) ∷ replicate ((cardWidth (s .shape)) - 1) 0
 
   zeros-long : length zeros ≡ cardWidth (s .shape)
-  zeros-long = omega (arith, length-replicate {A = ℕ} (cardWidth (s .shape) - 1) 0, width-nine (s .shape))
+  zeros-long = omega (arith, length-replicate {A = ℕ} (cardWidth (s .shape) - 1) 0, width-least (s .shape))
 
   emptied : List ℕ
-  emptied = sets out (cardAt (s .shape) (card .at) 0) zeros
+  emptied = sets out (cardAt (s .shape) (card .at) toNext) zeros
 
   emptied-whole : Whole emptied (s .shape) (fronts (held s) (faultsHeld s) (first (s .free)) (first (fs ++ s .freeFaults)) (segments (removed s y))) (set (cardChains s) (suc a) rest) faults₁
   unfolding emptied
@@ -318,7 +319,7 @@ module _ (w : List ℕ) (s : Store) (r : Rep w s) (y : List ℕ) (p : Present y 
       (subst (λ (l : List ℕ). P (map (freeCell faultWidth) l)) free-faults-removed (h 0))
       (subst (Every (Recorded u (s .shape))) (sym cards-removed) (every-map P historyOf (left ++ right) now))
 
-  written : removeWords (s .shape) w a (last (cellsOf prior)) (card .at) ≡ set (set (set emptied 7 (card .at)) 5 (held s - 1)) 6 (faultsHeld s - length fs)
+  written : removeWords (s .shape) w a (last (cellsOf prior)) (card .at) ≡ set (set (set emptied freeAt (card .at)) heldAt (held s - 1)) faultsHeldAt (faultsHeld s - length fs)
   unfolding removeWords given emptied
   written =
       let i = first-fault-at w s r a prior card (p .after) (p .parts) in
@@ -328,18 +329,18 @@ module _ (w : List ℕ) (s : Store) (r : Rep w s) (y : List ℕ) (p : Present y 
       let c = free-at w s r in
       let n = held-at w s r in
       let m = faults-held-at w s r in
-      λ t. set (set (set (sets (set (giveWords (s .shape) w (i t) (j t)) (linkAt (s .shape) a (last (cellsOf prior))) (next t)) (cardAt (s .shape) (card .at) 0) (c t ∷ replicate ((cardWidth (s .shape)) - 1) 0)) 7 (card .at)) 5 (n t - 1)) 6 (m t - k t)
+      λ t. set (set (set (sets (set (giveWords (s .shape) w (i t) (j t)) (linkAt (s .shape) a (last (cellsOf prior))) (next t)) (cardAt (s .shape) (card .at) toNext) (c t ∷ replicate ((cardWidth (s .shape)) - 1) 0)) freeAt (card .at)) heldAt (n t - 1)) faultsHeldAt (m t - k t)
 
   pub rep-removed : Rep (removeWords (s .shape) w a (last (cellsOf prior)) (card .at)) (removed s y)
   unfolding removed front header directory cardsAt
   rep-removed =
-      let u = set emptied 7 (card .at) in
-      let v = set u 5 (held s - 1) in
+      let u = set emptied freeAt (card .at) in
+      let v = set u heldAt (held s - 1) in
       let i = ap first free-removed in
       let j = ap first free-faults-removed in
       subst (λ (u : List ℕ). Rep u (removed s y)) (sym written)
       (whole-rep (removed-fair s (r .fair) y) (λ t. fronts (held-removed t) (faults-removed t) (i t) (j t) (segments (removed s y)))
-      refl (recorded-removed (set v 6 (faultsHeld s - length fs)))
+      refl (recorded-removed (set v faultsHeldAt (faultsHeld s - length fs)))
       (front-write v (s .shape) _ _ _
-      (front-write u (s .shape) _ _ _ (front-write emptied (s .shape) _ _ _ freed-whole 7 (card .at) (omega arith)) 5 (held s - 1) (omega arith))
-      6 (faultsHeld s - length fs) (omega arith)))
+      (front-write u (s .shape) _ _ _ (front-write emptied (s .shape) _ _ _ freed-whole freeAt (card .at) (omega arith)) heldAt (held s - 1) (omega arith))
+      faultsHeldAt (faultsHeld s - length fs) (omega arith)))

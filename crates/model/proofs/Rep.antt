@@ -17,7 +17,7 @@ use Rattle.model.specs.Model.{Store, Card, Fault, cards, size}
 use Rattle.model.specs.Layout.{part, cardWidth, faultWidth, cardCell, faultCell, freeCell, cardChains, faultChains, cardsAt, faultsAt, lengthFor, directoryAt, header, directory, segments, front, encode}
 use Rattle.model.proofs.Part.{Held, held-same, held-move, Wide, part-length, part-held}
 use Rattle.model.proofs.Tables.{length-table}
-use Rattle.model.proofs.Shapes.{width-nine}
+use Rattle.model.proofs.Shapes.{width-least, card-fills}
 use Rattle.model.proofs.Fair.{Fair}
 
 -- the words w stand for the store s
@@ -35,7 +35,7 @@ size-top s r = state-of (topOf (s .shape)) (s .maxp) (s .p) (r .state) .room
 
 -- a width is one more than the words behind the next one
 width-some : (sh : Shape) → suc (cardWidth sh - 1) ≡ cardWidth sh
-width-some sh = omega (arith, width-nine sh)
+width-some sh = omega (arith, width-least sh)
 
 wide-free : (m : ℕ) (l : List ℕ) → Wide m (map (freeCell (suc m)) l)
 unfolding freeCell
@@ -43,9 +43,8 @@ wide-free m [] = tt
 wide-free m (x ∷ xs) = (length-replicate (suc m - 1) 0 ∙ omega arith, wide-free m xs)
 
 wide-cards : (sh : Shape) (l : List Card) → Wide (cardWidth sh - 1) (map cardCell l)
-unfolding cardCell cardWidth
 wide-cards sh [] = tt
-wide-cards sh (x ∷ xs) = (refl, wide-cards sh xs)
+wide-cards sh (x ∷ xs) = (card-fills sh x, wide-cards sh xs)
 
 wide-faults : (l : List Fault) → Wide (faultWidth - 1) (map faultCell l)
 unfolding faultCell
@@ -135,7 +134,7 @@ unfolding lengthFor faultsAt
 rep-one w v s p q = ext-getD 0 w v (p .long ∙ sym (q .long)) at
   where
     rest : (i : ℕ) → (cardsAt (s .shape)) ≤ i → i < length w → (i < (cardsAt (s .shape)) + cardWidth (s .shape) * s .shape .limit) ⊎ (cardsAt (s .shape) + cardWidth (s .shape) * s .shape .limit ≤ i) → getD w i 0 ≡ getD v i 0
-    rest i a b (inl c) = held-same w v (cardsAt (s .shape)) (cardWidth (s .shape)) (s .shape .limit) (cardChains s) (omega (arith, width-nine (s .shape))) (p .fair .cells) (p .cards) (q .cards) i a c
+    rest i a b (inl c) = held-same w v (cardsAt (s .shape)) (cardWidth (s .shape)) (s .shape .limit) (cardChains s) (omega (arith, width-least (s .shape))) (p .fair .cells) (p .cards) (q .cards) i a c
     rest i a b (inr c) =
         held-same w v (cardsAt (s .shape) + cardWidth (s .shape) * s .shape .limit) faultWidth (s .shape .faultLimit) (faultChains s) (omega arith) (p .fair .faultCells) (p .faults) (q .faults) i c (omega (arith, p .long))
 

@@ -13,7 +13,7 @@ use lib.Seq.{getD-take, getD-drop}
 use borrow.Author.Tests.{eqb-true}
 use Rattle.rules.proofs.Tests.{both, either, lt?}
 use Rattle.model.specs.Lists.{all, between, from}
-use Rattle.model.specs.Serial.{allowed, serialOk}
+use Rattle.model.specs.Serial.{allowed, mostBytes, serialOk}
 use Rattle.model.specs.Layout.{packed, bytesOf}
 use Rattle.model.proofs.Lists.{between-is}
 
@@ -29,11 +29,11 @@ bytes-small (x ∷ xs) e zero = allowed-byte x (both (allowed x) (all allowed xs
 bytes-small (x ∷ xs) e (suc i) = bytes-small xs (both (allowed x) (all allowed xs) e .1) i
 
 -- a valid serial has 1 to 16 bytes, each below 256
-pub serial-is : (y : List ℕ) → serialOk y ≡ true → (1 ≤ length y) × (length y ≤ 16) × ((i : ℕ) → getD y i 0 < 256)
+pub serial-is : (y : List ℕ) → serialOk y ≡ true → (1 ≤ length y) × (length y ≤ mostBytes) × ((i : ℕ) → getD y i 0 < 256)
 unfolding serialOk
 serial-is y e =
-    let a = both (between 1 16 (length y)) (all allowed y) e in
-    let n = between-is 1 16 (length y) .0 (a .0) in
+    let a = both (between 1 mostBytes (length y)) (all allowed y) e in
+    let n = between-is 1 mostBytes (length y) .0 (a .0) in
     (n .0, n .1, bytes-small y (a .1))
 
 bytes-of : (a b c d : ℕ) → a < 256 → b < 256 → c < 256 → d < 256 → bytesOf (((a * 256 + b) * 256 + c) * 256 + d) ≡ a ∷ b ∷ c ∷ d ∷ []
@@ -73,7 +73,7 @@ unpacked w₀ w₁ w₂ w₃ = bytesOf w₀ ++ (bytesOf w₁ ++ (bytesOf w₂ ++
 -- packed and read back, of words that are known by equations
 module _ (n w₀ w₁ w₂ w₃ : ℕ) (y : List ℕ) (v : serialOk y ≡ true) (l : n ≡ length y)
     (e₀ : w₀ ≡ packed y 0) (e₁ : w₁ ≡ packed y 4) (e₂ : w₂ ≡ packed y 8) (e₃ : w₃ ≡ packed y 12) where
-  all-bytes : unpacked w₀ w₁ w₂ w₃ ≡ map (λ j. getD y j 0) (from 0 16)
+  all-bytes : unpacked w₀ w₁ w₂ w₃ ≡ map (λ j. getD y j 0) (from 0 mostBytes)
   unfolding packed
   all-bytes =
       let b = serial-is y v .2 in
@@ -84,10 +84,10 @@ module _ (n w₀ w₁ w₂ w₃ : ℕ) (y : List ℕ) (v : serialOk y ≡ true) 
       λ i. a₀ i ++ (a₁ i ++ (a₂ i ++ a₃ i))
 
   pub serial-read : take n (unpacked w₀ w₁ w₂ w₃) ≡ y
-  serial-read = (λ i. take (l i) (all-bytes i)) ∙ listed y 16 (serial-is y v .1)
+  serial-read = (λ i. take (l i) (all-bytes i)) ∙ listed y mostBytes (serial-is y v .1)
 
   pub serial-padded : all (eqb 0) (drop n (unpacked w₀ w₁ w₂ w₃)) ≡ true
-  serial-padded = (λ i. all (eqb 0) (drop (l i) (all-bytes i))) ∙ unlisted y 16
+  serial-padded = (λ i. all (eqb 0) (drop (l i) (all-bytes i))) ∙ unlisted y mostBytes
 
 -- read and packed again
 

@@ -12,6 +12,7 @@ use Rattle.rules.proofs.Tests.{both, all-of}
 use Rattle.model.specs.Lists.{same}
 use Rattle.model.specs.Shape.{topOf}
 use Rattle.model.specs.Model.{Store}
+use Rattle.model.specs.Layout.{maxpAt, pAt}
 use Rattle.model.specs.Layout.{cardsAt, header, front, encode, decode, shapeOk, shapeOf, loadOk, fair, good, soundIf, sound}
 use Rattle.model.proofs.Lists.{same-is}
 use Rattle.model.proofs.Fair.{Good, fair-is, is-fair, load-is, is-load}
@@ -25,14 +26,14 @@ rep-store w s t p q = sym (rep-decode w s p) ∙ rep-decode w t q
 pub is-sound : (w : List ℕ) (s : Store) → Rep w s → loadOk s ≡ true → sound w ≡ true
 unfolding sound good front header cardsAt
 is-sound w s r l =
-    let e : (stateOk (topOf (shapeOf w)) (getD w 3 0) (getD w 4 0) && shapeOk (shapeOf w)) ≡ true =
-    (λ i. stateOk (topOf (shape-at w s r i)) (rep-head r 3 (lit< tt) i) (rep-head r 4 (lit< tt) i) && shapeOk (shape-at w s r i)) ∙ all-of (r .fair .state) (r .fair .shape) in
+    let e : (stateOk (topOf (shapeOf w)) (getD w maxpAt 0) (getD w pAt 0) && shapeOk (shapeOf w)) ≡ true =
+    (λ i. stateOk (topOf (shape-at w s r i)) (rep-head r maxpAt (lit< tt) i) (rep-head r pAt (lit< tt) i) && shapeOk (shape-at w s r i)) ∙ all-of (r .fair .state) (r .fair .shape) in
     ap (λ (t : Bool). soundIf t w) e
     ∙ rw (rep-decode w s r) (all-of (all-of l (is-fair s (r .fair))) (same-is (encode s) w .1 (sym (rep-words w s r))))
 
 pub sound-is : (w : List ℕ) → sound w ≡ true → Rep w (decode w) × (loadOk (decode w) ≡ true)
 unfolding sound good
-sound-is w e = go (stateOk (topOf (shapeOf w)) (getD w 3 0) (getD w 4 0) && shapeOk (shapeOf w)) e
+sound-is w e = go (stateOk (topOf (shapeOf w)) (getD w maxpAt 0) (getD w pAt 0) && shapeOk (shapeOf w)) e
   where
     go : (t : Bool) → soundIf t w ≡ true → Rep w (decode w) × (loadOk (decode w) ≡ true)
     go true e =

@@ -18,6 +18,7 @@ use Rattle.model.specs.Lists.{all, keep, join, total}
 use Rattle.model.specs.Serial.{serialOk}
 use Rattle.model.specs.Shape.{Shape, segmentSize, entries, topOf}
 use Rattle.model.specs.Model.{Store, Card, cards, held, faultsHeld, size, over, bucket, cellsOf, moves, moving, staying, split, grown}
+use Rattle.model.specs.Layout.{maxpAt, pAt, heldAt, toNext}
 use Rattle.model.specs.Layout.{Cell, headOr, chained, atsOf, cardWidth, faultWidth, directoryAt, segmentsAt, cardsAt, faultsAt, cardCell, freeCell, cardChains, faultChains, header, directory, segments, front, first, last, cardWord, goodCard}
 use Rattle.model.specs.Meaning.{bucketsIn, bucketWord}
 use Rattle.model.specs.Words.{linkAt, openWords, movesAt, partWords, splitWords, growWords}
@@ -44,12 +45,12 @@ part-none zero sh m p w k g = refl
 part-none (suc fuel) sh m p w k g = refl
 
 pub part-goes : (fuel : ℕ) (sh : Shape) (m p : ℕ) (w : List ℕ) (k g x : ℕ) → 1 ≤ x → movesAt sh w m p x ≡ true
-    → partWords (suc fuel) sh m p w k g x ≡ partWords fuel sh m p (set w (linkAt sh (m + p) g) x) k x (cardWord sh w x 0)
+    → partWords (suc fuel) sh m p w k g x ≡ partWords fuel sh m p (set w (linkAt sh (m + p) g) x) k x (cardWord sh w x toNext)
 unfolding partWords
 part-goes fuel sh m p w k g x h e = rw (ne-eqb x 0 (omega arith), e)
 
 pub part-stays : (fuel : ℕ) (sh : Shape) (m p : ℕ) (w : List ℕ) (k g x : ℕ) → 1 ≤ x → movesAt sh w m p x ≡ false
-    → partWords (suc fuel) sh m p w k g x ≡ partWords fuel sh m p (set w (linkAt sh p k) x) x g (cardWord sh w x 0)
+    → partWords (suc fuel) sh m p w k g x ≡ partWords fuel sh m p (set w (linkAt sh p k) x) x g (cardWord sh w x toNext)
 unfolding partWords
 part-stays fuel sh m p w k g x h e = rw (ne-eqb x 0 (omega arith), e)
 
@@ -113,12 +114,12 @@ module _ (w₀ : List ℕ) (s : Store) (r : Rep w₀ s) (more : size s < topOf (
       subst (λ (u : List ℕ). Done u K G) (λ i. set (set w (linkAt (s .shape) p (last (ats-cards K i))) 0) (linkAt (s .shape) d (last (ats-cards G i))) 0) (f .0, f .1)
 
   moves-read : {w g : List ℕ} {K G X : List Cell} {t u : ℕ} (x : Card) → serialOk (x .serial) ≡ true → Parted p d w g K G (cardCell x ∷ X) t u
-      → (1 ≤ x .at) × (movesAt (s .shape) w (s .maxp) (s .p) (x .at) ≡ moves s x) × (cardWord (s .shape) w (x .at) 0 ≡ headOr 0 X)
+      → (1 ≤ x .at) × (movesAt (s .shape) w (s .maxp) (s .p) (x .at) ≡ moves s x) × (cardWord (s .shape) w (x .at) toNext ≡ headOr 0 X)
   unfolding movesAt cardWord cardCell
   moves-read {w} x v q = (
     q .inside (x .at) (omega (arith, bit-same (x .at) (x .at) refl)) .0,
     ap (λ (y : List ℕ). eqb (codeOf y % (2 * s .maxp)) (s .maxp + s .p)) (serial-stands (s .shape) w _ x v (q .cellsX .0)),
-    q .cellsX .0 0 (in-card (s .shape) (lit< tt)),
+    q .cellsX .0 toNext (in-card (s .shape) (lit< tt)),
   )
 
   parted : (fuel : ℕ) (X K G : List Card) (w g : List ℕ) (t u : ℕ) → length X ≤ fuel → Every (λ c. serialOk (c .serial) ≡ true) X
@@ -301,28 +302,28 @@ module _ (w₀ : List ℕ) (s : Store) (r : Rep w₀ s) (more : size s < topOf (
       (every-set P (s .buckets) (s .p) (staying s) old (every-keep P (λ c. not (moves s c)) (bucket s (s .p)) chain))
       (every-append P (moving s) [] (every-keep P (moves s) (bucket s (s .p)) chain) tt)))
 
-  written : splitWords (s .shape) w₀ ≡ set (set (openWords (s .shape) w₁ d) 3 (highMaxp (s .maxp) (s .p))) 4 (highP (s .maxp) (s .p))
+  written : splitWords (s .shape) w₀ ≡ set (set (openWords (s .shape) w₁ d) maxpAt (highMaxp (s .maxp) (s .p))) pAt (highP (s .maxp) (s .p))
   unfolding splitWords
   written =
       let m = maxp-at w₀ s r in
       let q = p-at w₀ s r in
       let b = ap (bucketWord (s .shape) w₀) q ∙ bucket-at w₀ s r (s .p) (omega (arith, below, length-map (s .buckets) (map cardCell))) in
-      λ t. set (set (openWords (s .shape) (partWords (s .shape .limit) (s .shape) (m t) (q t) w₀ 0 0 (b t)) (m t + q t)) 3 (highMaxp (m t) (q t))) 4 (highP (m t) (q t))
+      λ t. set (set (openWords (s .shape) (partWords (s .shape .limit) (s .shape) (m t) (q t) w₀ 0 0 (b t)) (m t + q t)) maxpAt (highMaxp (m t) (q t))) pAt (highP (m t) (q t))
 
   pub rep-split : Rep (splitWords (s .shape) w₀) (split s)
   unfolding split front header cardsAt
   rep-split =
       let u = openWords (s .shape) w₁ d in
-      let v = set u 3 (highMaxp (s .maxp) (s .p)) in
+      let v = set u maxpAt (highMaxp (s .maxp) (s .p)) in
       subst (λ (u : List ℕ). Rep u (split s)) (sym written)
       (whole-rep fair
       (λ t. fronted (s .shape) (highMaxp (s .maxp) (s .p)) (highP (s .maxp) (s .p)) (held-split t) (faults-split t) (first (s .free)) (first (s .freeFaults)) (directory (split s)) (segments (split s)))
-      refl (recorded-split (set v 4 (highP (s .maxp) (s .p))))
-      (front-write v (s .shape) _ _ _ (front-write u (s .shape) _ _ _ opened 3 (highMaxp (s .maxp) (s .p)) (omega arith)) 4 (highP (s .maxp) (s .p)) (omega arith)))
+      refl (recorded-split (set v pAt (highP (s .maxp) (s .p))))
+      (front-write v (s .shape) _ _ _ (front-write u (s .shape) _ _ _ opened maxpAt (highMaxp (s .maxp) (s .p)) (omega arith)) pAt (highP (s .maxp) (s .p)) (omega arith)))
 
 -- and if the load asks for it
 pub rep-grown : (w : List ℕ) (s : Store) → Rep w s → Rep (growWords (s .shape) w) (grown s)
 unfolding growWords grown
 rep-grown w s r =
-    let n : splits (topOf (s .shape)) (s .shape .upper) (getD w 5 0) (bucketsIn w) ≡ over s = λ t. splits (topOf (s .shape)) (s .shape .upper) (held-at w s r t) (maxp-at w s r t + p-at w s r t) in
+    let n : splits (topOf (s .shape)) (s .shape .upper) (getD w heldAt 0) (bucketsIn w) ≡ over s = λ t. splits (topOf (s .shape)) (s .shape .upper) (held-at w s r t) (maxp-at w s r t + p-at w s r t) in
     by-cases (over s) (λ e. rw (n, e) (rep-split w s r (split-room s (r .fair) e))) (λ e. rw (n, e) r)

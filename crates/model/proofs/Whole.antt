@@ -15,6 +15,7 @@ use borrow.Author.Tests.{ne-eqb}
 use Rattle.model.specs.Lists.{join, total}
 use Rattle.model.specs.Shape.{Shape, entries, topOf}
 use Rattle.model.specs.Model.{Store, Card, cards, size, bucket, withChain, cellsOf}
+use Rattle.model.specs.Layout.{toNext}
 use Rattle.model.specs.Layout.{Cell, headOr, chained, cellAt, cardWidth, faultWidth, cardsAt, faultsAt, lengthFor, boundsWord, ruleWord, directoryAt, segmentsAt, first, last, faultCell, freeCell, front, segments, cardChains, faultChains}
 use Rattle.model.specs.Words.{cardAt, linkAt}
 use Rattle.model.proofs.Lists.{join-set, map-append, map-set, set-append-add, Every, every-at, at-every, every-map, map-every}
@@ -189,14 +190,14 @@ module _ (w : List ℕ) (sh : Shape) (fr : List ℕ) (cs fs : List (List Cell)) 
         → (1 ≤ y .at) × Whole (set w (cellAt (cardsAt sh) (cardWidth sh) (y .at) 0) (x .at)) sh fr (set cs a (xs ++ (y ∷ []) ++ (x ∷ []))) fs
     card-behind h g m q e =
         let k = y-in w (cardsAt sh) (cardWidth sh) (sh .limit) cs cards-fit (r .cardsApart) (r .cards) a xs y [] h (g ∙ sym (append-nil (xs ++ (y ∷ [])))) in
-        (k .0, card-set (y .at) 0 (x .at) _ (k .0) (k .1) (in-card sh (lit< tt)) e (held-behind w (cardsAt sh) (cardWidth sh) (sh .limit) cs cards-fit (r .cardsApart) (r .cards) a xs y x h (in-card sh (lit< tt)) g m i q))
+        (k .0, card-set (y .at) toNext (x .at) _ (k .0) (k .1) (in-card sh (lit< tt)) e (held-behind w (cardsAt sh) (cardWidth sh) (sh .limit) cs cards-fit (r .cardsApart) (r .cards) a xs y x h (in-card sh (lit< tt)) g m i q))
 
     pub fault-behind : a < length fs → getD fs a [] ≡ xs ++ (y ∷ []) → many (x .at) (join fs) ≡ 0
         → Stands (cellIn w (faultsAt sh) faultWidth) faultWidth (record { at = x .at; words = 0 ∷ x .words }) → Apart (sh .faultLimit) (join (set fs a (xs ++ (y ∷ []) ++ (x ∷ []))))
         → (1 ≤ y .at) × Whole (set w (cellAt (faultsAt sh) faultWidth (y .at) 0) (x .at)) sh fr cs (set fs a (xs ++ (y ∷ []) ++ (x ∷ [])))
     fault-behind h g m q e =
         let k = y-in w (faultsAt sh) faultWidth (sh .faultLimit) fs faults-fit (r .faultsApart) (r .faults) a xs y [] h (g ∙ sym (append-nil (xs ++ (y ∷ [])))) in
-        (k .0, fault-set (y .at) 0 (x .at) _ (k .0) (k .1) (lit< tt) e (held-behind w (faultsAt sh) faultWidth (sh .faultLimit) fs faults-fit (r .faultsApart) (r .faults) a xs y x h (lit< tt) g m i q))
+        (k .0, fault-set (y .at) toNext (x .at) _ (k .0) (k .1) (lit< tt) e (held-behind w (faultsAt sh) faultWidth (sh .faultLimit) fs faults-fit (r .faultsApart) (r .faults) a xs y x h (lit< tt) g m i q))
 
   -- a write to the cell y of chain a of the cards
   module _ (a : ℕ) (xs : List Cell) (y : Cell) (ys : List Cell) (h : a < length cs) (g : getD cs a [] ≡ xs ++ (y ∷ []) ++ ys) where
@@ -208,7 +209,7 @@ module _ (w : List ℕ) (sh : Shape) (fr : List ℕ) (cs fs : List (List Cell)) 
         → Apart (sh .limit) (join (set cs a (xs ++ (y ∷ []) ++ zs)))
         → Whole (set w (cellAt (cardsAt sh) (cardWidth sh) (y .at) 0) (headOr 0 zs)) sh fr (set cs a (xs ++ (y ∷ []) ++ zs)) fs
     card-cut zs p o q e =
-        card-set (y .at) 0 (headOr 0 zs) (set cs a (xs ++ (y ∷ []) ++ zs)) (card-in .0) (card-in .1) (in-card sh (lit< tt)) e
+        card-set (y .at) toNext (headOr 0 zs) (set cs a (xs ++ (y ∷ []) ++ zs)) (card-in .0) (card-in .1) (in-card sh (lit< tt)) e
         (held-cut w (cardsAt sh) (cardWidth sh) (sh .limit) cs cards-fit (r .cardsApart) (r .cards) a xs y ys h g zs (in-card sh (lit< tt)) p o q)
 
     -- another word
@@ -227,7 +228,7 @@ module _ (w : List ℕ) (sh : Shape) (fr : List ℕ) (cs fs : List (List Cell)) 
         → Apart (sh .faultLimit) (join (set fs a (xs ++ (y ∷ []) ++ zs)))
         → Whole (set w (cellAt (faultsAt sh) faultWidth (y .at) 0) (headOr 0 zs)) sh fr cs (set fs a (xs ++ (y ∷ []) ++ zs))
     fault-cut zs p o q e =
-        fault-set (y .at) 0 (headOr 0 zs) (set fs a (xs ++ (y ∷ []) ++ zs)) (fault-in .0) (fault-in .1) (lit< tt) e
+        fault-set (y .at) toNext (headOr 0 zs) (set fs a (xs ++ (y ∷ []) ++ zs)) (fault-in .0) (fault-in .1) (lit< tt) e
         (held-cut w (faultsAt sh) faultWidth (sh .faultLimit) fs faults-fit (r .faultsApart) (r .faults) a xs y ys h g zs (lit< tt) p o q)
 
     pub fault-word : (k v : ℕ) → suc k < faultWidth → k < length (y .words)
@@ -368,6 +369,6 @@ module _ {A : Type 0} where
     unfolding linkAt
     link-none sh b e = ap (linkAt sh b) (last-none e)
 
-    pub link-last : (sh : Shape) (b : ℕ) (xs : List A) (x : A) → l ≡ xs ++ (x ∷ []) → 1 ≤ at x → linkAt sh b (last (map at l)) ≡ cardAt sh (at x) 0
+    pub link-last : (sh : Shape) (b : ℕ) (xs : List A) (x : A) → l ≡ xs ++ (x ∷ []) → 1 ≤ at x → linkAt sh b (last (map at l)) ≡ cardAt sh (at x) toNext
     unfolding linkAt
     link-last sh b xs x e h = ap (linkAt sh b) (last-at xs x e) ∙ rw (ne-eqb (at x) 0 (omega arith))

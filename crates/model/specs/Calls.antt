@@ -7,7 +7,7 @@ use lib.ListN.{length, take, drop, replicate}
 use Rattle.model.specs.Shape.{Shape}
 use Rattle.model.specs.Serial.{validSerial, validFault}
 use Rattle.model.specs.Model.{Fault, Store, held, faultsHeld, chainFor, found, comparisons, placed, removed, splitScan, contractScan, fresh, entered, filed, historyIn, withdrawn}
-use Rattle.model.specs.Layout.{limitsOk, lengthFor, encode, decode, sound}
+use Rattle.model.specs.Layout.{firstUpper, firstLower, limitsOk, lengthFor, encode, decode, sound}
 
 pub record Answer : Type 0 where
   pub number : ℕ
@@ -131,7 +131,7 @@ pub record Terms : Type 0 where
   pub faults : ℕ
 
 unfoldable pub shapeFor : Terms → Shape
-shapeFor t = record { format = 1; limit = t .cards; faultLimit = t .faults; upper = 4; lower = 2 }
+shapeFor t = record { format = 1; limit = t .cards; faultLimit = t .faults; upper = firstUpper; lower = firstLower }
 
 -- Open tests 1, then 2
 pub record Opened : Type 0 where

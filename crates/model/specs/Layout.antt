@@ -98,6 +98,19 @@ faultsAt sh = cardsAt sh + cardWidth sh * sh .limit
 unfoldable pub lengthFor : Shape → ℕ
 lengthFor sh = faultsAt sh + faultWidth * sh .faultLimit
 
+-- what all formats keep to: the fewest and the most words of a card cell, the fewest entries of a directory, and a number above every whole length
+abbrev pub leastWidth : ℕ
+leastWidth = 9
+
+abbrev pub mostWidth : ℕ
+mostWidth = 9
+
+abbrev pub leastEntries : ℕ
+leastEntries = 16
+
+abbrev pub farthest : ℕ
+farthest = 65536
+
 -- the words of a card cell: next, serial length, four words of serial from `toSerial` on, first fault, last fault, fault count
 abbrev pub toNext : ℕ
 toNext = 0
@@ -132,8 +145,14 @@ unfoldable pub limitsOk : ℕ → ℕ → Bool
 limitsOk c f = between 1 mostCards c && between 1 mostFaults f
 
 -- the formats: format 1 means the bounds 4 and 2, and has no word for them
+abbrev pub firstUpper : ℕ
+firstUpper = 4
+
+abbrev pub firstLower : ℕ
+firstLower = 2
+
 unfoldable pub formatOk : Shape → Bool
-formatOk sh = eqb (sh .format) 1 && (eqb (sh .upper) 4 && eqb (sh .lower) 2)
+formatOk sh = eqb (sh .format) 1 && (eqb (sh .upper) firstUpper && eqb (sh .lower) firstLower)
 
 unfoldable pub boundsWord : Shape → ℕ
 boundsWord sh = 0
@@ -152,8 +171,8 @@ shapeOf w =
       format = getD w formatAt 0;
       limit = getD w limitAt 0;
       faultLimit = getD w faultLimitAt 0;
-      upper = 4;
-      lower = 2;
+      upper = firstUpper;
+      lower = firstLower;
     }
 
 -- cells and chains

@@ -87,8 +87,8 @@ pub record SoundAs (sh : Shape) (w : List ℕ) : Type 0 where
   pub cardsOffset : getD w cardsOffsetAt 0 ≡ cardsAt sh
   pub faultsOffset : getD w faultsOffsetAt 0 ≡ faultsAt sh
   pub lengthWord : getD w wholeLengthAt 0 ≡ lengthFor sh
-  pub word14 : getD w boundsAt 0 ≡ boundsWord sh
-  pub word15 : getD w ruleAt 0 ≡ ruleWord sh
+  pub bounds : getD w boundsAt 0 ≡ boundsWord sh
+  pub rule : getD w ruleAt 0 ≡ ruleWord sh
   pub wholeLength : length w ≡ lengthFor sh
   -- the directory: entry k is where segment k begins if bucket 16k is there, else 0
   pub directoryUsed : (k : ℕ) → k < entries sh → segmentSize * k < bucketsIn w → getD w (directoryAt + k) 0 ≡ segmentsAt sh + segmentSize * k
