@@ -11,10 +11,11 @@ use borrow.Author.Tests.{eq-eqb, ne-eqb}
 use lib.Dec.{eqb}
 use lib.ListN.{length, getD, set, length-set}
 use Rattle.model.specs.Lists.{between}
-use Rattle.model.specs.Shape.{Shape, entries, topOf}
-use Rattle.model.specs.Layout.{cardWidth, faultWidth, segmentsAt, cardsAt, faultsAt, lengthFor, shapeOk, cellAt, cardWord, faultWord}
+use Rattle.model.specs.Shape.{segmentSize, Shape, entries, topOf}
+use Rattle.model.specs.Layout.{toNext}
+use Rattle.model.specs.Layout.{mostCards, mostWidth, cardWidth, faultWidth, segmentsAt, cardsAt, faultsAt, lengthFor, shapeOk, cellAt, cardWord, faultWord}
 use Rattle.model.proofs.Places.{cellAt-below}
-use Rattle.model.proofs.Shapes.{top-most, entries-some, width-nine, width-most, shaped}
+use Rattle.model.proofs.Shapes.{top-most, entries-some, width-least, width-most, shaped}
 use Rattle.store.specs.declared.cells.Header.{Header}
 use Rattle.store.specs.Cells.{shapeIn, Room, Sized, widthOf, cellWord, sameKey, metFirst, freeFits}
 use Rattle.store.specs.Checker.{reachOf}
@@ -22,8 +23,8 @@ use Rattle.store.proofs.Rows.{testFrom}
 
 -- what a header has in numbers, where the words are so long
 module _ (w : List ℕ) (h : Header) (ok : shapeOk (shapeIn h) ≡ true) (long : length w ≡ lengthFor (shapeIn h)) where
-  cards-most : cardWidth (shapeIn h) * h .cards ≤ 9216
-  cards-most = mul-le-mul {n₂ = 9} {m₂ = 1024} (width-most (shapeIn h)) (shaped (shapeIn h) ok .most)
+  cards-most : cardWidth (shapeIn h) * h .cards ≤ mostWidth * mostCards
+  cards-most = mul-le-mul {n₂ = mostWidth} {m₂ = mostCards} (width-most (shapeIn h)) (shaped (shapeIn h) ok .most)
 
   room-from : h .top ≡ topOf (shapeIn h) → h .segments ≡ segmentsAt (shapeIn h) → h .base ≡ cardsAt (shapeIn h) → h .width ≡ cardWidth (shapeIn h)
       → h .behind ≡ faultsAt (shapeIn h) → Room w h
@@ -39,7 +40,7 @@ module _ (w : List ℕ) (h : Header) (ok : shapeOk (shapeIn h) ≡ true) (long :
         within = omega (arith, b, f);
         whole = omega (arith, long, f);
         few = omega (arith, long, cards-most, top-most (shapeIn h), k .mostFaults);
-        nine = omega (arith, v, width-nine (shapeIn h));
+        wide = omega (arith, v, width-least (shapeIn h));
         cards = k .some;
         faults = k .someFaults;
         mostCards = k .most;
@@ -65,15 +66,15 @@ module _ {w : List ℕ} {h : Header} (s : Sized w h) where
   unfolding cardWord cellAt
   card-is i k = λ t. getD w (s .base t + s .width t * (i - 1) + k) 0
 
-  pub fault-in : (i k : ℕ) → 1 ≤ i → i ≤ h .faults → k < faultWidth → h .behind + 3 * (i - 1) + k < length w
+  pub fault-in : (i k : ℕ) → 1 ≤ i → i ≤ h .faults → k < faultWidth → h .behind + faultWidth * (i - 1) + k < length w
   fault-in i k a b l = let r = s .room in omega arith
 
-  pub fault-is : (i k : ℕ) → getD w (h .behind + 3 * (i - 1) + k) 0 ≡ faultWord (shapeIn h) w i k
+  pub fault-is : (i k : ℕ) → getD w (h .behind + faultWidth * (i - 1) + k) 0 ≡ faultWord (shapeIn h) w i k
   unfolding faultWord cellAt
-  fault-is i k = λ t. getD w (s .behind t + 3 * (i - 1) + k) 0
+  fault-is i k = λ t. getD w (s .behind t + faultWidth * (i - 1) + k) 0
 
   -- how many segments the most buckets take
-  pub segment-count : h .top / 16 ≡ entries (shapeIn h)
+  pub segment-count : h .top / segmentSize ≡ entries (shapeIn h)
   segment-count = omega (arith, s .top)
 
   -- other words, as long
@@ -87,9 +88,9 @@ module _ {w : List ℕ} {h : Header} (s : Sized w h) where
 pub width-some : (sh : Shape) (faults : Bool) → 0 < widthOf sh faults
 unfolding widthOf
 width-some sh true = omega arith
-width-some sh false = omega (arith, width-nine sh)
+width-some sh false = omega (arith, width-least sh)
 
-pub width-few : (sh : Shape) (faults : Bool) → widthOf sh faults ≤ 9
+pub width-few : (sh : Shape) (faults : Bool) → widthOf sh faults ≤ mostWidth
 unfolding widthOf
 width-few sh true = omega arith
 width-few sh false = omega (arith, width-most sh)
@@ -117,7 +118,7 @@ module _ (sh : Shape) (w : List ℕ) (j i c n : ℕ) (h : n < c) where
   unfolding metFirst
   met-twin d e t = rw (more, ne-eqb j i d, e, t)
 
-  pub met-on : (j ≡ i → ⊥) → between 1 (sh .limit) j ≡ true → sameKey sh w j i ≡ false → metFirst (c - (n + 1)) sh w (cardWord sh w j 0) i ≡ metFirst (c - n) sh w j i
+  pub met-on : (j ≡ i → ⊥) → between 1 (sh .limit) j ≡ true → sameKey sh w j i ≡ false → metFirst (c - (n + 1)) sh w (cardWord sh w j toNext) i ≡ metFirst (c - n) sh w j i
   unfolding metFirst
   met-on d e t = rw (more, ne-eqb j i d, e, t)
 

@@ -7,7 +7,7 @@ use mathlib.Core.Path.{_≡_, refl, sym, ap, _∙_}
 use mathlib.Core.Logic.{⊎-elim}
 use mathlib.Core.Bool.{Bool, true, false, cond, false≢true}
 use mathlib.Core.List.{List, [], _∷_}
-use Prim.Native.Nat.{ℕ, zero, suc, _-_, _≤_, _<_}
+use Prim.Native.Nat.{ℕ, zero, suc, _+_, _-_, _≤_, _<_}
 use native.Mathlib.Omega.{arith}
 use borrow.Author.Tests.{eqb-true, eq-eqb, ne-eqb}
 use lib.Dec.{eqb}
@@ -18,6 +18,7 @@ use Rattle.rules.proofs.Tests.{by-cases, not-both, both, all-of, eq?}
 use Rattle.model.specs.Shape.{Shape, topOf}
 use Rattle.model.specs.Lists.{all, between}
 use Rattle.model.specs.Serial.{serialOk, validSerial, validFault}
+use Rattle.model.specs.Layout.{maxpAt, pAt, toLength, toSerial, toDay, toCode}
 use Rattle.model.specs.Layout.{packed, cardWord, faultWord}
 use Rattle.model.specs.Meaning.{In, Leads, bucketWord, nextCard, bytesIn, serialIn}
 use Rattle.model.proofs.Lists.{between-is, all-from, from-all}
@@ -48,17 +49,17 @@ module _ (sh : Shape) (w : List ℕ) (faults : Bool) (i : ℕ) where
   is-free z = free-fits sh w faults i ∙ from-all zero-word 1 (widthOf sh faults - 1) (λ k a b. eq-eqb (cellWord sh w faults i k) 0 (z k a (omega arith)))
 
 -- a cell of a history
-pub fault-fits : (sh : Shape) (w : List ℕ) (i : ℕ) → cellFits sh w true 0 i ≡ validFault (faultWord sh w i 1) (faultWord sh w i 2)
+pub fault-fits : (sh : Shape) (w : List ℕ) (i : ℕ) → cellFits sh w true 0 i ≡ validFault (faultWord sh w i toDay) (faultWord sh w i toCode)
 unfolding cellFits faultFits
 fault-fits sh w i = rw (ne-eqb 0 (topOf sh) (omega (arith, entries-some sh)))
 
 -- a cell of bucket b
 
 pub record CardFits (sh : Shape) (w : List ℕ) (b i : ℕ) : Type 0 where
-  pub long : cardWord sh w i 1 ≡ length (serialIn sh w i)
+  pub long : cardWord sh w i toLength ≡ length (serialIn sh w i)
   pub valid : serialOk (serialIn sh w i) ≡ true
-  pub padding : all (eqb 0) (drop (cardWord sh w i 1) (bytesIn sh w i)) ≡ true
-  pub addressed : addressOf (codeOf (serialIn sh w i)) (getD w 3 0) (getD w 4 0) ≡ b
+  pub padding : all (eqb 0) (drop (cardWord sh w i toLength) (bytesIn sh w i)) ≡ true
+  pub addressed : addressOf (codeOf (serialIn sh w i)) (getD w maxpAt 0) (getD w pAt 0) ≡ b
   pub first : metFirst (sh .limit) sh w (bucketWord sh w b) i ≡ true
 
 card-fits : (sh : Shape) (w : List ℕ) (b i : ℕ) → b < topOf sh → cellFits sh w false b i ≡ cardFits sh w b i
@@ -68,8 +69,8 @@ card-fits sh w b i h = rw (ne-eqb b (topOf sh) (omega arith))
 pub card-is : (sh : Shape) (w : List ℕ) (b i : ℕ) → b < topOf sh → cellFits sh w false b i ≡ true → CardFits sh w b i
 unfolding cardFits validSerial bytesAt bytesIn serialIn
 card-is sh w b i h e =
-    let n = cardWord sh w i 1 in
-    let a = addressOf (codeOf (serialIn sh w i)) (getD w 3 0) (getD w 4 0) in
+    let n = cardWord sh w i toLength in
+    let a = addressOf (codeOf (serialIn sh w i)) (getD w maxpAt 0) (getD w pAt 0) in
     let (s, r) = both (validSerial (bytesAt sh w i) n) _ (sym (card-fits sh w b i h) ∙ e) in
     let (at, first) = both (eqb a b) (metFirst (sh .limit) sh w (bucketWord sh w b) i) r in
     let (l, v) = both (eqb (length (take n (bytesIn sh w i))) n) _ s in
@@ -80,37 +81,37 @@ pub is-card : (sh : Shape) (w : List ℕ) (b i : ℕ) → b < topOf sh → CardF
 unfolding cardFits validSerial bytesAt bytesIn serialIn
 is-card sh w b i h c =
     card-fits sh w b i h
-    ∙ all-of (all-of (eq-eqb (length (serialIn sh w i)) (cardWord sh w i 1) (sym (c .long))) (all-of (c .valid) (c .padding)))
-    (all-of (eq-eqb (addressOf (codeOf (serialIn sh w i)) (getD w 3 0) (getD w 4 0)) b (c .addressed)) (c .first))
+    ∙ all-of (all-of (eq-eqb (length (serialIn sh w i)) (cardWord sh w i toLength) (sym (c .long))) (all-of (c .valid) (c .padding)))
+    (all-of (eq-eqb (addressOf (codeOf (serialIn sh w i)) (getD w maxpAt 0) (getD w pAt 0)) b (c .addressed)) (c .first))
 
 -- the five words of a card
 
 pub key-serial : (sh : Shape) (w : List ℕ) (i j : ℕ) → sameKey sh w i j ≡ true → serialIn sh w i ≡ serialIn sh w j
 unfolding sameKey serialIn bytesIn
 key-serial sh w i j e =
-    let (a, e₁) = both (eqb (cardWord sh w i 1) (cardWord sh w j 1)) _ e in
-    let (b, e₂) = both (eqb (cardWord sh w i 2) (cardWord sh w j 2)) _ e₁ in
-    let (c, e₃) = both (eqb (cardWord sh w i 3) (cardWord sh w j 3)) _ e₂ in
-    let (d, f) = both (eqb (cardWord sh w i 4) (cardWord sh w j 4)) (eqb (cardWord sh w i 5) (cardWord sh w j 5)) e₃ in
+    let (a, e₁) = both (eqb (cardWord sh w i toLength) (cardWord sh w j toLength)) _ e in
+    let (b, e₂) = both (eqb (cardWord sh w i toSerial) (cardWord sh w j toSerial)) _ e₁ in
+    let (c, e₃) = both (eqb (cardWord sh w i (toSerial + 1)) (cardWord sh w j (toSerial + 1))) _ e₂ in
+    let (d, f) = both (eqb (cardWord sh w i (toSerial + 2)) (cardWord sh w j (toSerial + 2))) (eqb (cardWord sh w i (toSerial + 3)) (cardWord sh w j (toSerial + 3))) e₃ in
     rw (
-      eqb-true (cardWord sh w i 1) (cardWord sh w j 1) a,
-      eqb-true (cardWord sh w i 2) (cardWord sh w j 2) b,
-      eqb-true (cardWord sh w i 3) (cardWord sh w j 3) c,
-      eqb-true (cardWord sh w i 4) (cardWord sh w j 4) d,
-      eqb-true (cardWord sh w i 5) (cardWord sh w j 5) f,
+      eqb-true (cardWord sh w i toLength) (cardWord sh w j toLength) a,
+      eqb-true (cardWord sh w i toSerial) (cardWord sh w j toSerial) b,
+      eqb-true (cardWord sh w i (toSerial + 1)) (cardWord sh w j (toSerial + 1)) c,
+      eqb-true (cardWord sh w i (toSerial + 2)) (cardWord sh w j (toSerial + 2)) d,
+      eqb-true (cardWord sh w i (toSerial + 3)) (cardWord sh w j (toSerial + 3)) f,
     )
 
 pub serial-key : (sh : Shape) (w : List ℕ) (a b i j : ℕ) → CardFits sh w a i → CardFits sh w b j → serialIn sh w i ≡ serialIn sh w j → sameKey sh w i j ≡ true
 unfolding sameKey serialIn bytesIn
 serial-key sh w a b i j p q e =
-    let u = words-back (cardWord sh w i 1) (cardWord sh w i 2) (cardWord sh w i 3) (cardWord sh w i 4) (cardWord sh w i 5) (p .padding) in
-    let v = words-back (cardWord sh w j 1) (cardWord sh w j 2) (cardWord sh w j 3) (cardWord sh w j 4) (cardWord sh w j 5) (q .padding) in
+    let u = words-back (cardWord sh w i toLength) (cardWord sh w i toSerial) (cardWord sh w i (toSerial + 1)) (cardWord sh w i (toSerial + 2)) (cardWord sh w i (toSerial + 3)) (p .padding) in
+    let v = words-back (cardWord sh w j toLength) (cardWord sh w j toSerial) (cardWord sh w j (toSerial + 1)) (cardWord sh w j (toSerial + 2)) (cardWord sh w j (toSerial + 3)) (q .padding) in
     let packs : (k : ℕ) → packed (serialIn sh w i) k ≡ packed (serialIn sh w j) k = λ k. ap (λ (s : List ℕ). packed s k) e in
-    all-of (eq-eqb (cardWord sh w i 1) (cardWord sh w j 1) (p .long ∙ ap length e ∙ sym (q .long)))
-    (all-of (eq-eqb (cardWord sh w i 2) (cardWord sh w j 2) (sym (u .0) ∙ packs 0 ∙ v .0))
-    (all-of (eq-eqb (cardWord sh w i 3) (cardWord sh w j 3) (sym (u .1) ∙ packs 4 ∙ v .1))
-    (all-of (eq-eqb (cardWord sh w i 4) (cardWord sh w j 4) (sym (u .2) ∙ packs 8 ∙ v .2))
-    (eq-eqb (cardWord sh w i 5) (cardWord sh w j 5) (sym (u .3) ∙ packs 12 ∙ v .3)))))
+    all-of (eq-eqb (cardWord sh w i toLength) (cardWord sh w j toLength) (p .long ∙ ap length e ∙ sym (q .long)))
+    (all-of (eq-eqb (cardWord sh w i toSerial) (cardWord sh w j toSerial) (sym (u .0) ∙ packs 0 ∙ v .0))
+    (all-of (eq-eqb (cardWord sh w i (toSerial + 1)) (cardWord sh w j (toSerial + 1)) (sym (u .1) ∙ packs 4 ∙ v .1))
+    (all-of (eq-eqb (cardWord sh w i (toSerial + 2)) (cardWord sh w j (toSerial + 2)) (sym (u .2) ∙ packs 8 ∙ v .2))
+    (eq-eqb (cardWord sh w i (toSerial + 3)) (cardWord sh w j (toSerial + 3)) (sym (u .3) ∙ packs 12 ∙ v .3)))))
 
 -- met first in a chain
 

@@ -8,6 +8,7 @@ use borrow.Author.Tests.{eq-eqb, ne-eqb}
 use lib.ListN.{length, getD, set}
 use lib.Seq.{getD-set-other}
 use Rattle.model.specs.Shape.{Shape}
+use Rattle.model.specs.Layout.{freeFaultsAt, toNext, toDay, toCode}
 use Rattle.model.specs.Layout.{cellAt, follow, faultWord}
 use Rattle.model.specs.Meaning.{nextFault}
 use Rattle.model.specs.Words.{faultAt, clearWords, giveWords}
@@ -39,16 +40,16 @@ module _ {h : Header} {w₀ : List ℕ} {first : ℕ} {w : List ℕ} {i : ℕ} (
   pub clear-end : i ≡ 0 → w ≡ clearWords (h .faults) (shapeIn h) w₀ first
   clear-end z = sym (clear-none (a .fuel) sh w) ∙ ap (clearWords (a .fuel) sh w) (sym z) ∙ a .same
 
-  module _ (ne : i ≡ 0 → ⊥) {next : ℕ} {u v : List ℕ} (n : next ≡ faultWord (shapeIn h) w i 0) (e₁ : u ≡ set w (faultAt (shapeIn h) i 1) 0) (e₂ : v ≡ set u (faultAt (shapeIn h) i 2) 0) where
+  module _ (ne : i ≡ 0 → ⊥) {next : ℕ} {u v : List ℕ} (n : next ≡ faultWord (shapeIn h) w i toNext) (e₁ : u ≡ set w (faultAt (shapeIn h) i toDay) 0) (e₂ : v ≡ set u (faultAt (shapeIn h) i toCode) 0) where
     sized : Sized v h
-    sized = sized-set (sized-set (a .sized) (faultAt sh i 1) 0 e₁) (faultAt sh i 2) 0 e₂
+    sized = sized-set (sized-set (a .sized) (faultAt sh i toDay) 0 e₁) (faultAt sh i toCode) 0 e₂
 
     -- no next word is written
     agree : (k : ℕ) → nextFault sh v k ≡ nextFault sh w k
     unfolding faultWord cellAt
     agree k =
-        ap (λ (l : List ℕ). getD l (faultAt sh k 0) 0) e₂ ∙ getD-set-other u (faultAt sh i 2) (faultAt sh k 0) 0 0 (omega arith)
-        ∙ ap (λ (l : List ℕ). getD l (faultAt sh k 0) 0) e₁ ∙ getD-set-other w (faultAt sh i 1) (faultAt sh k 0) 0 0 (omega arith)
+        ap (λ (l : List ℕ). getD l (faultAt sh k toNext) 0) e₂ ∙ getD-set-other u (faultAt sh i toCode) (faultAt sh k toNext) 0 0 (omega arith)
+        ∙ ap (λ (l : List ℕ). getD l (faultAt sh k toNext) 0) e₁ ∙ getD-set-other w (faultAt sh i toDay) (faultAt sh k toNext) 0 0 (omega arith)
 
     behind : (follow f (nextFault sh v) next ≡ follow f (nextFault sh w) (nextFault sh w i)) × Ends f (nextFault sh v) next
     behind = rw n (ends-frame (ends-on (a .ends) ne .1) (nextFault sh v) (λ k p. agree k))
@@ -57,7 +58,7 @@ module _ {h : Header} {w₀ : List ℕ} {first : ℕ} {w : List ℕ} {i : ℕ} (
     clear-less = omega (arith, ap length (behind .0), ends-less (a .ends) ne)
 
     -- the next word, as it stands among the words
-    next-is : next ≡ getD w (faultAt sh i 0) 0
+    next-is : next ≡ getD w (faultAt sh i toNext) 0
     unfolding faultWord
     next-is = n
 
@@ -81,7 +82,7 @@ pub give-none : (sh : Shape) (w : List ℕ) (i j : ℕ) → i ≡ 0 → w ≡ gi
 unfolding giveWords
 give-none sh w i j z = rw (eq-eqb i 0 z)
 
-pub give-is : {w : List ℕ} {h : Header} → Sized w h → (i j : ℕ) → (i ≡ 0 → ⊥) → {free : ℕ} {w₁ w₂ w₃ : List ℕ} → free ≡ getD w 8 0 → w₁ ≡ clearWords (h .faults) (shapeIn h) w i
-    → w₂ ≡ set w₁ (faultAt (shapeIn h) j 0) free → w₃ ≡ set w₂ 8 i → w₃ ≡ giveWords (shapeIn h) w i j
+pub give-is : {w : List ℕ} {h : Header} → Sized w h → (i j : ℕ) → (i ≡ 0 → ⊥) → {free : ℕ} {w₁ w₂ w₃ : List ℕ} → free ≡ getD w freeFaultsAt 0 → w₁ ≡ clearWords (h .faults) (shapeIn h) w i
+    → w₂ ≡ set w₁ (faultAt (shapeIn h) j toNext) free → w₃ ≡ set w₂ freeFaultsAt i → w₃ ≡ giveWords (shapeIn h) w i j
 unfolding giveWords
 give-is s i j ne free e₁ e₂ e₃ = rw (e₃, e₂, e₁, free, ne-eqb i 0 ne)

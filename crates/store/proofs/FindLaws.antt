@@ -14,8 +14,9 @@ use Rattle.rules.specs.Code.{codeOf}
 use Rattle.rules.specs.Table.{addressOf}
 use Rattle.model.specs.Lists.{all, same}
 use Rattle.model.specs.Shape.{Shape, topOf}
-use Rattle.model.specs.Serial.{serialOk, validSerial}
+use Rattle.model.specs.Serial.{mostBytes, serialOk, validSerial}
 use Rattle.model.specs.Model.{Card, Store, bucket, addressIn, chainFor, is, found, before, comparisons, cellsOf, histories, historyIn}
+use Rattle.model.specs.Layout.{toLength, toSerial, toFirst, toCount}
 use Rattle.model.specs.Layout.{headOr, chained, cardWidth, segmentsAt, cardsAt, first, last, packed, cardCell, cardWord, goodCard, sound, decodeAs, decode}
 use Rattle.model.specs.Meaning.{nextCard, nextFault}
 use Rattle.model.proofs.Lists.{same-refl, same-eq, length-none, Every}
@@ -51,7 +52,7 @@ module _ (bytes : List ℕ) (n : ℕ) (v : validSerial bytes n ≡ true) where
   unfolding validSerial
   valid-length = eqb-true (length (take n bytes)) n (both (eqb (length (take n bytes)) n) _ v .0)
 
-  pub valid-short : n ≤ 16
+  pub valid-short : n ≤ mostBytes
   valid-short = omega (arith, valid-length, serial-is (take n bytes) (valid-serial bytes n v) .1)
 
   -- the unused bytes are zero, so the words of all sixteen are the serial's
@@ -69,28 +70,28 @@ module _ (bytes : List ℕ) (n : ℕ) (v : validSerial bytes n ≡ true) where
     key-is c t u q =
         by-cases (is (take n bytes) c)
         (λ k. let e = sym (same-eq (take n bytes) (c .serial) k) in
-        all-of (eq-eqb _ _ (q 1 (in-card sh (lit< tt)) ∙ ap length e ∙ valid-length))
-        (all-of (eq-eqb _ _ (q 2 (in-card sh (lit< tt)) ∙ ap (λ (l : List ℕ). packed l 0) e ∙ valid-packed 0))
-        (all-of (eq-eqb _ _ (q 3 (in-card sh (lit< tt)) ∙ ap (λ (l : List ℕ). packed l 4) e ∙ valid-packed 4))
-        (all-of (eq-eqb _ _ (q 4 (in-card sh (lit< tt)) ∙ ap (λ (l : List ℕ). packed l 8) e ∙ valid-packed 8))
-        (all-of (eq-eqb _ _ (q 5 (in-card sh (lit< tt)) ∙ ap (λ (l : List ℕ). packed l 12) e ∙ valid-packed 12)) refl))))
+        all-of (eq-eqb _ _ (q toLength (in-card sh (lit< tt)) ∙ ap length e ∙ valid-length))
+        (all-of (eq-eqb _ _ (q toSerial (in-card sh (lit< tt)) ∙ ap (λ (l : List ℕ). packed l 0) e ∙ valid-packed 0))
+        (all-of (eq-eqb _ _ (q (toSerial + 1) (in-card sh (lit< tt)) ∙ ap (λ (l : List ℕ). packed l 4) e ∙ valid-packed 4))
+        (all-of (eq-eqb _ _ (q (toSerial + 2) (in-card sh (lit< tt)) ∙ ap (λ (l : List ℕ). packed l 8) e ∙ valid-packed 8))
+        (all-of (eq-eqb _ _ (q (toSerial + 3) (in-card sh (lit< tt)) ∙ ap (λ (l : List ℕ). packed l 12) e ∙ valid-packed 12)) refl))))
         ∙ sym k)
         (λ k. by-cases (hasKey sh w (c .at) n (packedAll bytes)) (λ e. absurd (differ k e)) (λ e. e ∙ sym k))
       where
         differ : is (take n bytes) c ≡ false → hasKey sh w (c .at) n (packedAll bytes) ≡ true → ⊥
         differ k e =
-            let a = both (eqb (cardWord sh w (c .at) 1) n) _ e in
-            let b = both (eqb (cardWord sh w (c .at) 2) (packed bytes 0)) _ (a .1) in
-            let d = both (eqb (cardWord sh w (c .at) 3) (packed bytes 4)) _ (b .1) in
-            let f = both (eqb (cardWord sh w (c .at) 4) (packed bytes 8)) _ (d .1) in
-            let g = both (eqb (cardWord sh w (c .at) 5) (packed bytes 12)) _ (f .1) in
+            let a = both (eqb (cardWord sh w (c .at) toLength) n) _ e in
+            let b = both (eqb (cardWord sh w (c .at) toSerial) (packed bytes 0)) _ (a .1) in
+            let d = both (eqb (cardWord sh w (c .at) (toSerial + 1)) (packed bytes 4)) _ (b .1) in
+            let f = both (eqb (cardWord sh w (c .at) (toSerial + 2)) (packed bytes 8)) _ (d .1) in
+            let g = both (eqb (cardWord sh w (c .at) (toSerial + 3)) (packed bytes 12)) _ (f .1) in
             let z =
             same-words (take n bytes) (c .serial) (valid-serial bytes n v) u
-            (sym (q 1 (in-card sh (lit< tt))) ∙ eqb-true _ _ (a .0) ∙ sym valid-length)
-            (sym (q 2 (in-card sh (lit< tt))) ∙ eqb-true _ _ (b .0) ∙ sym (valid-packed 0))
-            (sym (q 3 (in-card sh (lit< tt))) ∙ eqb-true _ _ (d .0) ∙ sym (valid-packed 4))
-            (sym (q 4 (in-card sh (lit< tt))) ∙ eqb-true _ _ (f .0) ∙ sym (valid-packed 8))
-            (sym (q 5 (in-card sh (lit< tt))) ∙ eqb-true _ _ (g .0) ∙ sym (valid-packed 12)) in
+            (sym (q toLength (in-card sh (lit< tt))) ∙ eqb-true _ _ (a .0) ∙ sym valid-length)
+            (sym (q toSerial (in-card sh (lit< tt))) ∙ eqb-true _ _ (b .0) ∙ sym (valid-packed 0))
+            (sym (q (toSerial + 1) (in-card sh (lit< tt))) ∙ eqb-true _ _ (d .0) ∙ sym (valid-packed 4))
+            (sym (q (toSerial + 2) (in-card sh (lit< tt))) ∙ eqb-true _ _ (f .0) ∙ sym (valid-packed 8))
+            (sym (q (toSerial + 3) (in-card sh (lit< tt))) ∙ eqb-true _ _ (g .0) ∙ sym (valid-packed 12)) in
             not-both (ap (same (take n bytes)) (sym z) ∙ same-refl (take n bytes)) k
 
     -- so of each card of a bucket
@@ -244,9 +245,9 @@ module _ (w : List ℕ) (e : sound w ≡ true) {h : Header} (r : Read w h) (byte
 pub record HeldCell (w : List ℕ) (y : List ℕ) (h : Header) (i : ℕ) : Type 0 where
   pub from-one : 1 ≤ i
   pub in-limit : i ≤ h .cards
-  pub count-word : cardWord (shapeIn h) w i 8 ≡ length (historyIn (decode w) y)
-  pub history : faultsFrom (shapeIn h) w (cardWord (shapeIn h) w i 6) ≡ historyIn (decode w) y
-  pub history-ends : Ends (h .faults) (nextFault (shapeIn h) w) (cardWord (shapeIn h) w i 6)
+  pub count-word : cardWord (shapeIn h) w i toCount ≡ length (historyIn (decode w) y)
+  pub history : faultsFrom (shapeIn h) w (cardWord (shapeIn h) w i toFirst) ≡ historyIn (decode w) y
+  pub history-ends : Ends (h .faults) (nextFault (shapeIn h) w) (cardWord (shapeIn h) w i toFirst)
 
 pub held-cell : {w : List ℕ} {h : Header} {y : List ℕ} {o : Spot} → Read w h → IsHeld w (decode w) y o → HeldCell w y h (o .cell)
 held-cell {w} r k =
@@ -256,5 +257,5 @@ held-cell {w} r k =
       in-limit = rw (k .cell-is) (subst (λ (sh : Shape). k .present .card .at ≤ sh .limit) l (k .stored .in-limit));
       count-word = rw (k .cell-is, k .history-is, ← l) (k .stored .count-word);
       history = rw (k .cell-is, ← l, k .history-is) (k .stored .history);
-      history-ends = rw (k .cell-is) (subst (λ (sh : Shape). Ends (sh .faultLimit) (nextFault sh w) (cardWord sh w (k .present .card .at) 6)) l (k .stored .history-ends));
+      history-ends = rw (k .cell-is) (subst (λ (sh : Shape). Ends (sh .faultLimit) (nextFault sh w) (cardWord sh w (k .present .card .at) toFirst)) l (k .stored .history-ends));
     }

@@ -19,8 +19,8 @@ use Rattle.rules.proofs.Tests.{eq?}
 use Rattle.model.specs.Lists.{join, from}
 use Rattle.model.specs.Shape.{Shape, segmentSize, entries, topOf}
 use Rattle.model.specs.Model.{Card, Store, fresh}
-use Rattle.model.specs.Layout.{Cell, directoryAt, segmentsAt, shapeOk, boundsWord, ruleWord, cardWidth, faultWidth, freeCell, cardCell, faultCell, chained, headOr, wordsOf, part, cardChains, faultChains, cardsAt, faultsAt, lengthFor, header, directory, segments, front, encode}
-use Rattle.model.proofs.Shapes.{shaped, entries-some, width-nine, width-most, top-most}
+use Rattle.model.specs.Layout.{mostCards, farthest, leastEntries, mostWidth, Cell, directoryAt, segmentsAt, shapeOk, boundsWord, ruleWord, cardWidth, faultWidth, freeCell, cardCell, faultCell, chained, headOr, wordsOf, part, cardChains, faultChains, cardsAt, faultsAt, lengthFor, header, directory, segments, front, encode}
+use Rattle.model.proofs.Shapes.{shaped, entries-some, width-least, width-most, top-most}
 use Rattle.model.proofs.Rep.{directory-length}
 use Rattle.store.specs.Fresh.{behind, leading, cellsTo}
 
@@ -131,15 +131,15 @@ directory-fresh sh =
     let g = entries-some sh in
     let e : entries sh ≡ suc (entries sh - 1) = omega arith in
     let z : segmentsAt sh + segmentSize * 0 ≡ segmentsAt sh = omega arith in
-    sym (ap (λ (n : ℕ). map (λ k. cond (ltb (segmentSize * k) 16) (segmentsAt sh + segmentSize * k) 0) (from 0 n)) e
-    ∙ (λ i. z i ∷ table-zeros (λ k. cond (ltb (segmentSize * k) 16) (segmentsAt sh + segmentSize * k) 0) 1 (entries sh - 1) (λ k l. rw (le-ltb (segmentSize * k) 16 (omega arith))) i))
+    sym (ap (λ (n : ℕ). map (λ k. cond (ltb (segmentSize * k) least) (segmentsAt sh + segmentSize * k) 0) (from 0 n)) e
+    ∙ (λ i. z i ∷ table-zeros (λ k. cond (ltb (segmentSize * k) least) (segmentsAt sh + segmentSize * k) 0) 1 (entries sh - 1) (λ k l. rw (le-ltb (segmentSize * k) least (omega arith))) i))
 
 pub segments-fresh : (sh : Shape) (n : ℕ) → n ≡ topOf sh → replicate n 0 ≡ segments (fresh sh)
 unfolding segments fresh
 segments-fresh sh n e =
     let g = entries-some sh in
-    let z : n ≡ 16 + (topOf sh - 16) = omega (arith, e) in
-    ap (λ (m : ℕ). replicate {A = ℕ} m 0) z ∙ sym (replicate-append-replicate {A = ℕ} 16 (topOf sh - 16) 0)
+    let z : n ≡ least + (topOf sh - least) = omega (arith, e) in
+    ap (λ (m : ℕ). replicate {A = ℕ} m 0) z ∙ sym (replicate-append-replicate {A = ℕ} least (topOf sh - least) 0)
 
 pub head-length : (s : Store) → length (header s ++ directory s) ≡ segmentsAt (s .shape)
 head-length s = length-append (header s) (directory s) ∙ omega (arith, header-length s, directory-length s)
@@ -199,19 +199,19 @@ fresh-words sh =
 
 -- where the parts of a shape begin, and that they are few words
 pub record Spans (sh : Shape) : Type 0 where
-  pub head : segmentsAt sh ≡ 16 + entries sh
-  pub some : 16 ≤ entries sh
+  pub head : segmentsAt sh ≡ directoryAt + entries sh
+  pub some : leastEntries ≤ entries sh
   pub table : cardsAt sh ≡ segmentsAt sh + topOf sh
   pub cards : faultsAt sh ≡ cardsAt sh + cardWidth sh * sh .limit
-  pub faults : lengthFor sh ≡ faultsAt sh + 3 * sh .faultLimit
-  pub few : lengthFor sh < 65536
+  pub faults : lengthFor sh ≡ faultsAt sh + faultWidth * sh .faultLimit
+  pub few : lengthFor sh < farthest
   pub wide : 0 < cardWidth sh
 
 pub spans : (sh : Shape) → shapeOk sh ≡ true → Spans sh
 unfolding lengthFor faultsAt cardsAt
 spans sh t =
     let k = shaped sh t in
-    let m : cardWidth sh * sh .limit ≤ 9216 = mul-le-mul {n₂ = 9} {m₂ = 1024} (width-most sh) (k .most) in
+    let m : cardWidth sh * sh .limit ≤ mostWidth * mostCards = mul-le-mul {n₂ = mostWidth} {m₂ = mostCards} (width-most sh) (k .most) in
     record {
       head = refl;
       some = entries-some sh;
@@ -219,7 +219,7 @@ spans sh t =
       cards = refl;
       faults = refl;
       few = omega (arith, m, top-most sh, k .mostFaults);
-      wide = omega (arith, width-nine sh);
+      wide = omega (arith, width-least sh);
     }
 
 pub fresh-shape : (sh : Shape) → fresh sh .shape ≡ sh

@@ -10,7 +10,8 @@ use lib.ListN.{length, getD}
 use borrow.Author.Tests.{eqb-true, leb-true}
 use Rattle.rules.proofs.Tests.{both}
 use Rattle.model.specs.Shape.{Shape, entries, topOf}
-use Rattle.model.specs.Layout.{directoryAt, segmentsAt, cardWidth, cardsAt, faultsAt, lengthFor, boundsWord, ruleWord, shapeOk, shapeOf}
+use Rattle.model.specs.Layout.{maxpAt, pAt, directoryOffsetAt, segmentsOffsetAt, cardsOffsetAt, faultsOffsetAt, wholeLengthAt, boundsAt, ruleAt}
+use Rattle.model.specs.Layout.{mostWidth, directoryAt, segmentsAt, cardWidth, cardsAt, faultsAt, lengthFor, boundsWord, ruleWord, shapeOk, shapeOf}
 use Rattle.model.proofs.Shapes.{width-most, top-most}
 use Rattle.store.specs.declared.cells.Header.{Header}
 use Rattle.store.specs.Cells.{shapeIn, Read}
@@ -22,7 +23,7 @@ use Rattle.store.proofs.CellLaws.{sized-from}
 pub behind-few : (sh : Shape) → sh .limit < 4294967296 → faultsAt sh < 68719476736
 unfolding faultsAt cardsAt
 behind-few sh l =
-    let m : cardWidth sh * sh .limit ≤ 9 * sh .limit = mul-le-mul {n₂ = 9} {m₂ = sh .limit} (width-most sh) (omega arith) in
+    let m : cardWidth sh * sh .limit ≤ mostWidth * sh .limit = mul-le-mul {n₂ = mostWidth} {m₂ = sh .limit} (width-most sh) (omega arith) in
     omega (arith, m, top-most sh)
 
 -- what the first test shows
@@ -40,23 +41,23 @@ fit-is w t =
 
 -- and the second: words 9 to 15
 pub record Offsets (w : List ℕ) : Type 0 where
-  pub directory : getD w 9 0 ≡ directoryAt
-  pub segments : getD w 10 0 ≡ segmentsAt (shapeOf w)
-  pub base : getD w 11 0 ≡ cardsAt (shapeOf w)
-  pub behind : getD w 12 0 ≡ faultsAt (shapeOf w)
-  pub whole : getD w 13 0 ≡ lengthFor (shapeOf w)
-  pub bounds : getD w 14 0 ≡ boundsWord (shapeOf w)
-  pub rule : getD w 15 0 ≡ ruleWord (shapeOf w)
+  pub directory : getD w directoryOffsetAt 0 ≡ directoryAt
+  pub segments : getD w segmentsOffsetAt 0 ≡ segmentsAt (shapeOf w)
+  pub base : getD w cardsOffsetAt 0 ≡ cardsAt (shapeOf w)
+  pub behind : getD w faultsOffsetAt 0 ≡ faultsAt (shapeOf w)
+  pub whole : getD w wholeLengthAt 0 ≡ lengthFor (shapeOf w)
+  pub bounds : getD w boundsAt 0 ≡ boundsWord (shapeOf w)
+  pub rule : getD w ruleAt 0 ≡ ruleWord (shapeOf w)
 
 pub offsets-are : (w : List ℕ) → offsetsFit w ≡ true → Offsets w
 unfolding offsetsFit endsFit
 offsets-are w t =
-    let a = both (eqb (getD w 9 0) directoryAt) _ t in
-    let b = both (eqb (getD w 10 0) (segmentsAt (shapeOf w))) _ (a .1) in
-    let c = both (eqb (getD w 11 0) (cardsAt (shapeOf w))) _ (b .1) in
-    let d = both (eqb (getD w 12 0) (faultsAt (shapeOf w))) _ (c .1) in
-    let e = both (eqb (getD w 13 0) (lengthFor (shapeOf w))) _ (d .1) in
-    let f = both (eqb (getD w 14 0) (boundsWord (shapeOf w))) (eqb (getD w 15 0) (ruleWord (shapeOf w))) (e .1) in
+    let a = both (eqb (getD w directoryOffsetAt 0) directoryAt) _ t in
+    let b = both (eqb (getD w segmentsOffsetAt 0) (segmentsAt (shapeOf w))) _ (a .1) in
+    let c = both (eqb (getD w cardsOffsetAt 0) (cardsAt (shapeOf w))) _ (b .1) in
+    let d = both (eqb (getD w faultsOffsetAt 0) (faultsAt (shapeOf w))) _ (c .1) in
+    let e = both (eqb (getD w wholeLengthAt 0) (lengthFor (shapeOf w))) _ (d .1) in
+    let f = both (eqb (getD w boundsAt 0) (boundsWord (shapeOf w))) (eqb (getD w ruleAt 0) (ruleWord (shapeOf w))) (e .1) in
     record {
       directory = eqb-true _ _ (a .0);
       segments = eqb-true _ _ (b .0);
@@ -69,8 +70,8 @@ offsets-are w t =
 
 -- a header whose numbers are the words' makes the words read
 pub fit-read : (w : List ℕ) (h : Header) → limitsFit w ≡ true → offsetsFit w ≡ true → shapeIn h ≡ shapeOf w
-    → h .top ≡ topOf (shapeOf w) → h .segments ≡ getD w 10 0 → h .base ≡ getD w 11 0 → h .width ≡ cardWidth (shapeOf w) → h .behind ≡ getD w 12 0
-    → h .maxp ≡ getD w 3 0 → h .p ≡ getD w 4 0 → Read w h
+    → h .top ≡ topOf (shapeOf w) → h .segments ≡ getD w segmentsOffsetAt 0 → h .base ≡ getD w cardsOffsetAt 0 → h .width ≡ cardWidth (shapeOf w) → h .behind ≡ getD w faultsOffsetAt 0
+    → h .maxp ≡ getD w maxpAt 0 → h .p ≡ getD w pAt 0 → Read w h
 fit-read w h t o e top segments base width behind maxp p =
     let f = fit-is w t in
     let g = offsets-are w o in

@@ -13,6 +13,7 @@ use Rattle.rules.specs.Table.{least, stateOk}
 use Rattle.rules.proofs.Tests.{by-cases, both, all-of, either}
 use Rattle.rules.proofs.States.{state-of}
 use Rattle.model.specs.Shape.{Shape, segmentSize, entries, topOf}
+use Rattle.model.specs.Layout.{formatAt, limitAt, faultLimitAt, maxpAt, pAt, heldAt, directoryOffsetAt, segmentsOffsetAt, cardsOffsetAt, faultsOffsetAt, wholeLengthAt, boundsAt, ruleAt}
 use Rattle.model.specs.Layout.{directoryAt, segmentsAt, cardsAt, faultsAt, lengthFor, boundsWord, ruleWord, shapeOk, shapeOf}
 use Rattle.model.specs.Meaning.{bucketsIn, bucketWord, Sound}
 use Rattle.model.proofs.Lists.{all-from, from-all}
@@ -21,23 +22,23 @@ use Rattle.store.proofs.FrontLaws.{fit-is, offsets-are}
 
 -- the clauses of `Sound` that tell of the words before the cells
 pub record Front (sh : Shape) (w : List ℕ) : Type 0 where
-  pub formatWord : getD w 0 0 ≡ sh .format
-  pub limitWord : getD w 1 0 ≡ sh .limit
-  pub faultLimitWord : getD w 2 0 ≡ sh .faultLimit
+  pub formatWord : getD w formatAt 0 ≡ sh .format
+  pub limitWord : getD w limitAt 0 ≡ sh .limit
+  pub faultLimitWord : getD w faultLimitAt 0 ≡ sh .faultLimit
   pub shape : shapeOk sh ≡ true
-  pub state : stateOk (topOf sh) (getD w 3 0) (getD w 4 0) ≡ true
-  pub directoryOffset : getD w 9 0 ≡ directoryAt
-  pub segmentsOffset : getD w 10 0 ≡ segmentsAt sh
-  pub cardsOffset : getD w 11 0 ≡ cardsAt sh
-  pub faultsOffset : getD w 12 0 ≡ faultsAt sh
-  pub lengthWord : getD w 13 0 ≡ lengthFor sh
-  pub word14 : getD w 14 0 ≡ boundsWord sh
-  pub word15 : getD w 15 0 ≡ ruleWord sh
+  pub state : stateOk (topOf sh) (getD w maxpAt 0) (getD w pAt 0) ≡ true
+  pub directoryOffset : getD w directoryOffsetAt 0 ≡ directoryAt
+  pub segmentsOffset : getD w segmentsOffsetAt 0 ≡ segmentsAt sh
+  pub cardsOffset : getD w cardsOffsetAt 0 ≡ cardsAt sh
+  pub faultsOffset : getD w faultsOffsetAt 0 ≡ faultsAt sh
+  pub lengthWord : getD w wholeLengthAt 0 ≡ lengthFor sh
+  pub bounds : getD w boundsAt 0 ≡ boundsWord sh
+  pub rule : getD w ruleAt 0 ≡ ruleWord sh
   pub wholeLength : length w ≡ lengthFor sh
   pub directoryUsed : (k : ℕ) → k < entries sh → segmentSize * k < bucketsIn w → getD w (directoryAt + k) 0 ≡ segmentsAt sh + segmentSize * k
   pub directoryUnused : (k : ℕ) → k < entries sh → bucketsIn w ≤ segmentSize * k → getD w (directoryAt + k) 0 ≡ 0
-  pub notOver : (bucketsIn w ≡ topOf sh) ⊎ (getD w 5 0 ≤ sh .upper * bucketsIn w)
-  pub notUnder : (bucketsIn w ≡ least) ⊎ (sh .lower * bucketsIn w ≤ getD w 5 0)
+  pub notOver : (bucketsIn w ≡ topOf sh) ⊎ (getD w heldAt 0 ≤ sh .upper * bucketsIn w)
+  pub notUnder : (bucketsIn w ≡ least) ⊎ (sh .lower * bucketsIn w ≤ getD w heldAt 0)
   pub unusedZero : (b : ℕ) → bucketsIn w ≤ b → b < topOf sh → bucketWord sh w b ≡ 0
 
 entry-used : (segments b k : ℕ) → segmentSize * k < b → entryFor segments b k ≡ segments + segmentSize * k
@@ -60,7 +61,7 @@ module _ (w : List ℕ) where
   b = bucketsIn w
 
   abbrev n : ℕ
-  n = getD w 5 0
+  n = getD w heldAt 0
 
   entry-right : ℕ → Bool
   entry-right k = eqb (getD w (directoryAt + k) 0) (entryFor (segmentsAt sh) b k)
@@ -73,12 +74,12 @@ module _ (w : List ℕ) where
   front-is e =
       let (limits, e₁) = both (limitsFit w) _ e in
       let (offsets, e₂) = both (offsetsFit w) _ e₁ in
-      let (state, e₃) = both (stateOk (topOf sh) (getD w 3 0) (getD w 4 0)) _ e₂ in
+      let (state, e₃) = both (stateOk (topOf sh) (getD w maxpAt 0) (getD w pAt 0)) _ e₂ in
       let (load, e₄) = both (loadFits sh n b) _ e₃ in
       let (entries-ok, rest) = both (directoryFits sh w b) (restFits sh w b) e₄ in
       let fit = fit-is w limits in
       let at = offsets-are w offsets in
-      let room = state-of (topOf sh) (getD w 3 0) (getD w 4 0) state .room in
+      let room = state-of (topOf sh) (getD w maxpAt 0) (getD w pAt 0) state .room in
       let (n₁, n₂) = both (leb n (sh .upper * b) || leb (topOf sh) b) (eqb b least || leb (sh .lower * b) n) load in
       let entry : (k : ℕ) → k < entries sh → getD w (directoryAt + k) 0 ≡ entryFor (segmentsAt sh) b k =
       λ k h. eqb-true (getD w (directoryAt + k) 0) (entryFor (segmentsAt sh) b k) (all-from entry-right 0 (entries sh) entries-ok k (omega arith) (omega arith)) in
@@ -93,8 +94,8 @@ module _ (w : List ℕ) where
         cardsOffset = at .base;
         faultsOffset = at .behind;
         lengthWord = at .whole;
-        word14 = at .bounds;
-        word15 = at .rule;
+        bounds = at .bounds;
+        rule = at .rule;
         wholeLength = fit .long;
         directoryUsed = λ k h u. entry k h ∙ entry-used (segmentsAt sh) b k u;
         directoryUnused = λ k h u. entry k h ∙ entry-unused (segmentsAt sh) b k u;
@@ -107,15 +108,15 @@ module _ (w : List ℕ) where
   unfolding frontFits limitsFit offsetsFit endsFit loadFits directoryFits restFits entry-right bucket-empty
   is-front s =
       all-of (all-of (le-leb directoryAt (length w) (omega (arith, s .wholeLength, head-fits sh))) (all-of (s .shape) (eq-eqb (length w) (lengthFor sh) (s .wholeLength))))
-      (all-of (all-of (eq-eqb (getD w 9 0) directoryAt (s .directoryOffset))
-      (all-of (eq-eqb (getD w 10 0) (segmentsAt sh) (s .segmentsOffset))
-      (all-of (eq-eqb (getD w 11 0) (cardsAt sh) (s .cardsOffset))
-      (all-of (eq-eqb (getD w 12 0) (faultsAt sh) (s .faultsOffset))
-      (all-of (eq-eqb (getD w 13 0) (lengthFor sh) (s .lengthWord)) (all-of (eq-eqb (getD w 14 0) (boundsWord sh) (s .word14)) (eq-eqb (getD w 15 0) (ruleWord sh) (s .word15))))))))
+      (all-of (all-of (eq-eqb (getD w directoryOffsetAt 0) directoryAt (s .directoryOffset))
+      (all-of (eq-eqb (getD w segmentsOffsetAt 0) (segmentsAt sh) (s .segmentsOffset))
+      (all-of (eq-eqb (getD w cardsOffsetAt 0) (cardsAt sh) (s .cardsOffset))
+      (all-of (eq-eqb (getD w faultsOffsetAt 0) (faultsAt sh) (s .faultsOffset))
+      (all-of (eq-eqb (getD w wholeLengthAt 0) (lengthFor sh) (s .lengthWord)) (all-of (eq-eqb (getD w boundsAt 0) (boundsWord sh) (s .bounds)) (eq-eqb (getD w ruleAt 0) (ruleWord sh) (s .rule))))))))
       (all-of (s .state)
       (all-of (all-of (over (s .notOver)) (under (s .notUnder)))
       (all-of (from-all entry-right 0 (entries sh) (λ k l h. eq-eqb (getD w (directoryAt + k) 0) (entryFor (segmentsAt sh) b k) (entry k (omega arith))))
-      (from-all bucket-empty b (topOf sh - b) (λ j l h. eq-eqb (getD w (segmentsAt sh + j) 0) 0 (s .unusedZero j l (omega (arith, state-of (topOf sh) (getD w 3 0) (getD w 4 0) (s .state) .room)))))))))
+      (from-all bucket-empty b (topOf sh - b) (λ j l h. eq-eqb (getD w (segmentsAt sh + j) 0) 0 (s .unusedZero j l (omega (arith, state-of (topOf sh) (getD w maxpAt 0) (getD w pAt 0) (s .state) .room)))))))))
     where
       over : (b ≡ topOf sh) ⊎ (n ≤ sh .upper * b) → (leb n (sh .upper * b) || leb (topOf sh) b) ≡ true
       over (inl e) = by-cases (leb n (sh .upper * b)) (λ t. rw t) (λ t. rw t (le-leb (topOf sh) b (omega (arith, e))))

@@ -15,6 +15,7 @@ use Rattle.rules.proofs.Tests.{all-of}
 use Rattle.rules.proofs.States.{State, state-of, size-low}
 use Rattle.model.specs.Shape.{Shape}
 use Rattle.model.specs.Model.{Store, grown, shrunk}
+use Rattle.model.specs.Layout.{heldAt, directoryOffsetAt, segmentsOffsetAt, cardsOffsetAt, faultsOffsetAt, wholeLengthAt, boundsAt, ruleAt}
 use Rattle.model.specs.Layout.{directoryAt, segmentsAt, cardsAt, faultsAt, lengthFor, boundsWord, ruleWord, header, front, fair, encode, decode}
 use Rattle.model.specs.Meaning.{nextCard, bucketWord}
 use Rattle.model.specs.Words.{splitWords, joinWords, growWords, shrinkWords}
@@ -53,12 +54,12 @@ unfolding offsetsFit endsFit front header
 offsets-from w s r =
     let sh = s .shape in
     rw (shape-at w s r)
-    (all-of (eq-eqb (getD w 9 0) directoryAt (rep-head r 9 (lit< tt)))
-    (all-of (eq-eqb (getD w 10 0) (segmentsAt sh) (rep-head r 10 (lit< tt)))
-    (all-of (eq-eqb (getD w 11 0) (cardsAt sh) (rep-head r 11 (lit< tt)))
-    (all-of (eq-eqb (getD w 12 0) (faultsAt sh) (rep-head r 12 (lit< tt)))
-    (all-of (eq-eqb (getD w 13 0) (lengthFor sh) (rep-head r 13 (lit< tt)))
-    (all-of (eq-eqb (getD w 14 0) (boundsWord sh) (rep-head r 14 (lit< tt))) (eq-eqb (getD w 15 0) (ruleWord sh) (rep-head r 15 (lit< tt)))))))))
+    (all-of (eq-eqb (getD w directoryOffsetAt 0) directoryAt (rep-head r directoryOffsetAt (lit< tt)))
+    (all-of (eq-eqb (getD w segmentsOffsetAt 0) (segmentsAt sh) (rep-head r segmentsOffsetAt (lit< tt)))
+    (all-of (eq-eqb (getD w cardsOffsetAt 0) (cardsAt sh) (rep-head r cardsOffsetAt (lit< tt)))
+    (all-of (eq-eqb (getD w faultsOffsetAt 0) (faultsAt sh) (rep-head r faultsOffsetAt (lit< tt)))
+    (all-of (eq-eqb (getD w wholeLengthAt 0) (lengthFor sh) (rep-head r wholeLengthAt (lit< tt)))
+    (all-of (eq-eqb (getD w boundsAt 0) (boundsWord sh) (rep-head r boundsAt (lit< tt))) (eq-eqb (getD w ruleAt 0) (ruleWord sh) (rep-head r ruleAt (lit< tt)))))))))
 
 pub fairly-fits : {w : List ℕ} → Fairly w → (limitsFit w ≡ true) × (offsetsFit w ≡ true)
 fairly-fits {w} a = (limits-from w (decode w) (fairly-rep a), offsets-from w (decode w) (fairly-rep a))
@@ -91,7 +92,7 @@ module _ {w : List ℕ} {h : Header} (a : Fairly w) (q : Read w h) where
       record { read = q; some = two; room = state .room; chain = chain (lowP (h .maxp) (h .p)) (omega (arith, low-below (h .maxp) (h .p) two)) }
 
   -- the load is that of the store
-  module _ {n : ℕ} (is : n ≡ getD w 5 0) where
+  module _ {n : ℕ} (is : n ≡ getD w heldAt 0) where
     pub may-split : splits (h .top) (h .upper) n (h .maxp + h .p) ≡ true → MaySplit w h
     may-split t = record {
       read = q;

@@ -9,6 +9,7 @@ use native.Mathlib.Omega.{arith}
 use lib.ListN.{getD}
 use Rattle.model.specs.Shape.{Shape}
 use Rattle.model.specs.Lists.{from, total}
+use Rattle.model.specs.Layout.{toFirst}
 use Rattle.model.specs.Layout.{cardWord}
 use Rattle.model.specs.Meaning.{In, ExactlyOnce, nextFault, freeCells, heldCells, historyCells, filedCells}
 use Rattle.model.proofs.Sums.{total-flat}
@@ -18,15 +19,15 @@ use Rattle.store.specs.Checker.{firstOf, chainCount}
 use Rattle.model.proofs.Chains.{follow-none}
 use Rattle.store.proofs.PartMeans.{chainIn, chainsIn}
 
-pub no-history : (sh : Shape) (w : List ℕ) (i : ℕ) → cardWord sh w i 6 ≡ 0 → historyCells sh w i ≡ []
+pub no-history : (sh : Shape) (w : List ℕ) (i : ℕ) → cardWord sh w i toFirst ≡ 0 → historyCells sh w i ≡ []
 unfolding historyCells
-no-history sh w i z = follow-none (sh .faultLimit) (nextFault sh w) (cardWord sh w i 6) z
+no-history sh w i z = follow-none (sh .faultLimit) (nextFault sh w) (cardWord sh w i toFirst) z
 
 total-shift : (f : ℕ → ℕ) (a n : ℕ) → total (λ j. f (j + 1)) (from a n) ≡ total f (from (suc a) n)
 total-shift f a zero = refl
 total-shift f a (suc n) = let e : a + 1 ≡ suc a = omega arith in omega (arith, ap f e, total-shift f (suc a) n)
 
-pub filed-total : (sh : Shape) (w : List ℕ) → ExactlyOnce (sh .limit) (freeCells sh w ++ heldCells sh w) → ((i : ℕ) → In i (freeCells sh w) → cardWord sh w i 6 ≡ 0)
+pub filed-total : (sh : Shape) (w : List ℕ) → ExactlyOnce (sh .limit) (freeCells sh w ++ heldCells sh w) → ((i : ℕ) → In i (freeCells sh w) → cardWord sh w i toFirst ≡ 0)
     → (g : ℕ → ℕ) → total g (chainsIn sh w true) ≡ total g (filedCells sh w)
 unfolding firstOf chainCount limitOf cellWord historyCells filedCells
 filed-total sh w cells empty g =

@@ -14,6 +14,7 @@ use Rattle.rules.proofs.Tests.{eq?}
 use Rattle.model.specs.Shape.{Shape, topOf}
 use Rattle.model.specs.Serial.{validSerial, validFault}
 use Rattle.model.specs.Model.{Fault, Card, Store, cards, held, faultsHeld, chainFor, comparisons, splitScan, contractScan, faultCellsOf, placed, grown, entered, filed, historyIn, removed, shrunk, withdrawn}
+use Rattle.model.specs.Layout.{toFirst, toLast}
 use Rattle.model.specs.Layout.{last, follow, cardWidth, faultWidth, cardsAt, faultsAt, lengthFor, cardCell, cardWord, readFault, decode, encode, sound}
 use Rattle.model.specs.Meaning.{nextFault}
 use Rattle.model.specs.Words.{placeWords, fileWords, removeWords}
@@ -55,14 +56,14 @@ cells-back sh w (i ∷ l) = ap (λ (l : List ℕ). i ∷ l) (cells-back sh w l)
 
 -- a card's history is the chain that its first-fault word leads through, and its last fault stands in a cell of it
 module _ {w : List ℕ} {s : Store} {c : Card} {after : List Card} (k : Stored w s c after) where
-  history-last : cardWord (s .shape) w (c .at) 7 ≡ last (follow (s .shape .faultLimit) (nextFault (s .shape) w) (cardWord (s .shape) w (c .at) 6))
+  history-last : cardWord (s .shape) w (c .at) toLast ≡ last (follow (s .shape .faultLimit) (nextFault (s .shape) w) (cardWord (s .shape) w (c .at) toFirst))
   unfolding faultsFrom
   history-last =
-      let l = follow (s .shape .faultLimit) (nextFault (s .shape) w) (cardWord (s .shape) w (c .at) 6) in
+      let l = follow (s .shape .faultLimit) (nextFault (s .shape) w) (cardWord (s .shape) w (c .at) toFirst) in
       k .last-word ∙ ap (λ (h : List Fault). last (faultCellsOf h)) (sym (k .history)) ∙ ap last (cells-back (s .shape) w l)
 
-  last-fault : cardWord (s .shape) w (c .at) 7 ≤ s .shape .faultLimit
-  last-fault = let l = follow (s .shape .faultLimit) (nextFault (s .shape) w) (cardWord (s .shape) w (c .at) 6) in omega (arith, history-last, last-inside (s .shape .faultLimit) l (k .history-ends .inside))
+  last-fault : cardWord (s .shape) w (c .at) toLast ≤ s .shape .faultLimit
+  last-fault = let l = follow (s .shape .faultLimit) (nextFault (s .shape) w) (cardWord (s .shape) w (c .at) toFirst) in omega (arith, history-last, last-inside (s .shape .faultLimit) l (k .history-ends .inside))
 
 -- the cell before a card or behind a chain is a card's, or 0
 prev-inside : {w : List ℕ} {s : Store} {l after : List Card} (prev : ℕ) → ((prev ≡ 0 → ⊥) → Behind w s l after prev) → prev ≤ s .shape .limit
@@ -180,8 +181,8 @@ module _ (w : List ℕ) (e : sound w ≡ true) (bytes : List ℕ) (n : ℕ) {r :
           inside = k .in-limit;
           free = rw (free-faults-at w s t) (new .0);
           within = rw (free-faults-at w s t, ← f) (new .1);
-          last = rw (file-held .cell-is) (subst (λ (sh : Shape). cardWord sh w (file-held .present .card .at) 7 ≤ sh .faultLimit) l (last-fault (file-held .stored)));
-          count = omega (arith, k .count-word, ap length (k .history), faults-long (shapeIn h) w (cardWord (shapeIn h) w (r .cell) 6), follow-length (h .faults) (nextFault (shapeIn h) w) (cardWord (shapeIn h) w (r .cell) 6));
+          last = rw (file-held .cell-is) (subst (λ (sh : Shape). cardWord sh w (file-held .present .card .at) toLast ≤ sh .faultLimit) l (last-fault (file-held .stored)));
+          count = omega (arith, k .count-word, ap length (k .history), faults-long (shapeIn h) w (cardWord (shapeIn h) w (r .cell) toFirst), follow-length (h .faults) (nextFault (shapeIn h) w) (cardWord (shapeIn h) w (r .cell) toFirst));
           held = omega (arith, faults-held-at w s t, file-facts .3, f);
         }
 
@@ -246,7 +247,7 @@ module _ (w : List ℕ) (e : sound w ≡ true) (bytes : List ℕ) (n : ℕ) {r :
           ends = k .history-ends;
           last-is =
               rw (withdraw-held .cell-is)
-              (subst (λ (sh : Shape). cardWord sh w (withdraw-held .present .card .at) 7 ≡ last (follow (sh .faultLimit) (nextFault sh w) (cardWord sh w (withdraw-held .present .card .at) 6))) l (history-last (withdraw-held .stored)));
+              (subst (λ (sh : Shape). cardWord sh w (withdraw-held .present .card .at) toLast ≡ last (follow (sh .faultLimit) (nextFault sh w) (cardWord sh w (withdraw-held .present .card .at) toFirst))) l (history-last (withdraw-held .stored)));
         }
 
     -- the words without the card stand for the store without it, and once shrunk they are those of the step

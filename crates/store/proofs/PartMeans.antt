@@ -14,6 +14,7 @@ use lib.ListN.{length, getD, length-append}
 use Rattle.rules.proofs.Tests.{both, all-of, eq?, lt?}
 use Rattle.model.specs.Shape.{Shape, topOf}
 use Rattle.model.specs.Lists.{join, from, total}
+use Rattle.model.specs.Layout.{freeAt, freeFaultsAt}
 use Rattle.model.specs.Layout.{follow, last}
 use Rattle.model.specs.Meaning.{times, In, ExactlyOnce, Leads}
 use Rattle.model.specs.Calls.{scratchNeed}
@@ -36,7 +37,7 @@ abbrev pub chainsIn : Shape → List ℕ → Bool → List ℕ
 chainsIn sh w faults = join (map (chainIn sh w faults) (from 0 (chainCount sh w faults)))
 
 abbrev pub freeHead : List ℕ → Bool → ℕ
-freeHead w faults = getD w (cond faults 8 7) 0
+freeHead w faults = getD w (cond faults freeFaultsAt freeAt) 0
 
 abbrev pub freeIn : Shape → List ℕ → Bool → List ℕ
 freeIn sh w faults = follow (limitOf sh faults) (nextIn sh w faults) (freeHead w faults)

@@ -9,6 +9,7 @@ use native.Mathlib.Omega.{arith}
 use lib.Dec.{eqb}
 use lib.ListN.{length, drop, getD}
 use Rattle.model.specs.Shape.{Shape, topOf}
+use Rattle.model.specs.Layout.{maxpAt, pAt, freeAt, freeFaultsAt}
 use Rattle.model.specs.Layout.{shapeOf}
 use Rattle.store.specs.declared.cells.Header.{Header}
 use Rattle.rules.proofs.Tests.{both}
@@ -50,7 +51,7 @@ module _ {w : List ℕ} {h : Header} (r : Read w h) where
   marks-reach false = let s = r .sized .room in omega arith
 
   module _ (faults : Bool) {base limit : ℕ} (b : base ≡ cond faults (h .cards) 0) (l : limit ≡ cond faults (h .faults) (h .cards)) where
-    pub did-free : (bytes : List ℕ) {first n last : ℕ} {ok : Bool} {left : List ℕ} → first ≡ getD w (cond faults 8 7) 0
+    pub did-free : (bytes : List ℕ) {first n last : ℕ} {ok : Bool} {left : List ℕ} → first ≡ getD w (cond faults freeFaultsAt freeAt) 0
         → Did (walkOf (cellFits sh w faults (h .top)) (nextIn sh w faults) base limit bytes first) ok n last left → Did (freeOf sh w faults bytes) ok n last left
     unfolding freeOf
     did-free bytes e d = rw (← (r .sized .top), ← (limit-is faults), ← (base-is faults), ← l, ← b, ← e) d
@@ -82,7 +83,7 @@ pub front-offsets : (w : List ℕ) → frontFits w ≡ true → offsetsFit w ≡
 unfolding frontFits
 front-offsets w e = both (offsetsFit w) _ (both (limitsFit w) _ e .1) .0
 
-pub front-room : (w : List ℕ) → frontFits w ≡ true → getD w 3 0 + getD w 4 0 ≤ topOf (shapeOf w)
+pub front-room : (w : List ℕ) → frontFits w ≡ true → getD w maxpAt 0 + getD w pAt 0 ≤ topOf (shapeOf w)
 front-room w e = state-of _ _ _ (front-is w e .state) .room
 
 module _ (w bytes : List ℕ) where

@@ -12,6 +12,7 @@ use lib.ListN.{length, set}
 use lib.Seq.{getD-set-other}
 use Rattle.rules.proofs.Tests.{eq?}
 use Rattle.model.specs.Shape.{Shape, topOf}
+use Rattle.model.specs.Layout.{toNext}
 use Rattle.model.specs.Layout.{cardWidth, cardsAt, follow, cardWord}
 use Rattle.model.specs.Meaning.{nextCard, bucketWord}
 use Rattle.model.specs.Words.{cardAt, linkAt, movesAt, partWords}
@@ -31,7 +32,7 @@ use Rattle.store.proofs.EndsLaws.{ends-in, ends-zero, ends-frame, ends-
 -- a link is written
 
 -- it is no next word of another cell
-link-other : (sh : Shape) (b j i : ℕ) → b < topOf sh → 1 ≤ i → (i ≡ j → ⊥) → cardAt sh i 0 ≡ linkAt sh b j → ⊥
+link-other : (sh : Shape) (b j i : ℕ) → b < topOf sh → 1 ≤ i → (i ≡ j → ⊥) → cardAt sh i toNext ≡ linkAt sh b j → ⊥
 unfolding cardsAt
 link-other sh b j i low a d e =
     ⊎-elim (λ (z : j ≡ 0). omega (arith, link-bucket sh b z, cellAt-from (cardsAt sh) (cardWidth sh) i 0))
@@ -39,7 +40,7 @@ link-other sh b j i low a d e =
 
 link-next : (sh : Shape) (w : List ℕ) (b j v : ℕ) → b < topOf sh → (i : ℕ) → 1 ≤ i → (i ≡ j → ⊥) → nextCard sh (set w (linkAt sh b j) v) i ≡ nextCard sh w i
 unfolding cardWord
-link-next sh w b j v low i a d = getD-set-other w (linkAt sh b j) (cardAt sh i 0) v 0 (link-other sh b j i low a d)
+link-next sh w b j v low i a d = getD-set-other w (linkAt sh b j) (cardAt sh i toNext) v 0 (link-other sh b j i low a d)
 
 -- a chain is parted
 
@@ -139,7 +140,7 @@ module _ {h : Header} {w₀ : List ℕ} (pre : MaySplit w₀ h) where
             }
 
       -- the same, of what the code reads and writes
-      module _ {w₁ : List ℕ} {y : ℕ} (next : y ≡ cardWord (shapeIn h) w x 0) where
+      module _ {w₁ : List ℕ} {y : ℕ} (next : y ≡ cardWord (shapeIn h) w x toNext) where
         less : (b j : ℕ) → b < topOf sh → count j (follow c (nextCard sh w) x) ≡ 0 → w₁ ≡ set w (linkAt sh b j) x → length (follow c (nextCard sh w₁) y) < length (follow c (nextCard sh w) x)
         unfolding new
         less b j low apart e = rw (e, next, framed b j low apart .0) (ends-less (r .chain) some)

@@ -13,6 +13,7 @@ use Rattle.rules.proofs.States.{state-of}
 use Rattle.model.specs.Shape.{Shape, topOf}
 use Rattle.model.specs.Lists.{total}
 use Rattle.model.specs.Serial.{validFault}
+use Rattle.model.specs.Layout.{maxpAt, pAt, toFirst, toLast, toCount, toDay, toCode}
 use Rattle.model.specs.Layout.{cardWidth, faultWidth, last, cardWord, faultWord}
 use Rattle.model.specs.Meaning.{In, ExactlyOnce, Leads, bucketsIn, bucketWord, nextFault, bucketCells, freeCells, historyCells, freeFaultCells, heldCells, filedCells, serialIn, SoundAs}
 use Rattle.model.proofs.Sums.{bit, count, total-append, length-total}
@@ -32,7 +33,7 @@ module _ (sh : Shape) (w : List ℕ) (f : Front sh w) (c : Part sh w false) (h :
 
   card : (b i : ℕ) → b < bucketsIn w → In i (bucketCells sh w b) → CardFits sh w b i
   unfolding chainCount limitOf cellWord firstOf bucketCells
-  card b i l p = card-is sh w b i (omega (arith, state-of (topOf sh) (getD w 3 0) (getD w 4 0) (f .state) .room)) (c .good b i l p)
+  card b i l p = card-is sh w b i (omega (arith, state-of (topOf sh) (getD w maxpAt 0) (getD w pAt 0) (f .state) .room)) (c .good b i l p)
 
   cells : ExactlyOnce (sh .limit) (freeCells sh w ++ heldCells sh w)
   unfolding chainCount limitOf cellWord firstOf bucketCells heldCells freeCells
@@ -58,21 +59,21 @@ module _ (sh : Shape) (w : List ℕ) (f : Front sh w) (c : Part sh w false) (h :
   -- histories: that of card i is chain i - 1
 
   record History (i : ℕ) : Type 0 where
-    leads : Leads (nextFault sh w) (cardWord sh w i 6) (historyCells sh w i)
-    good : (k : ℕ) → In k (historyCells sh w i) → validFault (faultWord sh w k 1) (faultWord sh w k 2) ≡ true
-    count : cardWord sh w i 8 ≡ length (historyCells sh w i)
-    end : cardWord sh w i 7 ≡ last (historyCells sh w i)
+    leads : Leads (nextFault sh w) (cardWord sh w i toFirst) (historyCells sh w i)
+    good : (k : ℕ) → In k (historyCells sh w i) → validFault (faultWord sh w k toDay) (faultWord sh w k toCode) ≡ true
+    count : cardWord sh w i toCount ≡ length (historyCells sh w i)
+    end : cardWord sh w i toLast ≡ last (historyCells sh w i)
 
   history : (j : ℕ) → j < sh .limit → History (j + 1)
   unfolding chainCount limitOf cellWord firstOf endFits historyCells
   history j l =
       let cells = historyCells sh w (j + 1) in
-      let (n, e) = both (eqb (length cells) (cardWord sh w (j + 1) 8)) (eqb (last cells) (cardWord sh w (j + 1) 7)) (h .ends j l) in
+      let (n, e) = both (eqb (length cells) (cardWord sh w (j + 1) toCount)) (eqb (last cells) (cardWord sh w (j + 1) toLast)) (h .ends j l) in
       record {
         leads = h .chain j l;
         good = λ k p. sym (fault-fits sh w k) ∙ h .good j k l p;
-        count = sym (eqb-true (length cells) (cardWord sh w (j + 1) 8) n);
-        end = sym (eqb-true (last cells) (cardWord sh w (j + 1) 7) e);
+        count = sym (eqb-true (length cells) (cardWord sh w (j + 1) toCount) n);
+        end = sym (eqb-true (last cells) (cardWord sh w (j + 1) toLast) e);
       }
 
   of-card : (i : ℕ) → In i (heldCells sh w) → History i
@@ -81,7 +82,7 @@ module _ (sh : Shape) (w : List ℕ) (f : Front sh w) (c : Part sh w false) (h :
       subst History (let e : i - 1 + 1 ≡ i = omega arith in e) (history (i - 1) (omega arith))
 
   filed : (g : ℕ → ℕ) → total g (chainsIn sh w true) ≡ total g (filedCells sh w)
-  filed = filed-total sh w cells (λ i p. free-zero i 6 p (omega arith) (in-card sh (lit< tt)))
+  filed = filed-total sh w cells (λ i p. free-zero i toFirst p (omega arith) (in-card sh (lit< tt)))
 
   fault-cells : ExactlyOnce (sh .faultLimit) (freeFaultCells sh w ++ filedCells sh w)
   unfolding limitOf cellWord freeFaultCells
@@ -109,8 +110,8 @@ module _ (sh : Shape) (w : List ℕ) (f : Front sh w) (c : Part sh w false) (h :
         cardsOffset = f .cardsOffset;
         faultsOffset = f .faultsOffset;
         lengthWord = f .lengthWord;
-        word14 = f .word14;
-        word15 = f .word15;
+        bounds = f .bounds;
+        rule = f .rule;
         wholeLength = f .wholeLength;
         directoryUsed = f .directoryUsed;
         directoryUnused = f .directoryUnused;

@@ -9,12 +9,13 @@ use native.Mathlib.Omega.{arith}
 use lib.Dec.{eqb, ltb}
 use lib.ListN.{length, take, getD, length-map}
 use borrow.Author.Tests.{eq-eqb, ne-eqb, lt-ltb, le-ltb}
-use Rattle.rules.specs.Table.{splits, contracts}
+use Rattle.rules.specs.Table.{least, splits, contracts}
 use Rattle.rules.proofs.Tests.{by-cases}
 use Rattle.rules.proofs.States.{State, state-of, size-low}
 use Rattle.model.specs.Shape.{Shape, topOf}
 use Rattle.model.specs.Serial.{validSerial, validFault}
 use Rattle.model.specs.Model.{Store, Card, held, faultsHeld, size, bucket, chainFor, found, historyIn, removed, contractScan}
+use Rattle.model.specs.Layout.{heldAt, faultsHeldAt, toFirst}
 use Rattle.model.specs.Layout.{segmentsAt, mostCards, mostFaults, follow, cardWord, decode, sound}
 use Rattle.model.specs.Meaning.{nextCard, nextFault}
 use Rattle.model.specs.Calls.{Answer, gives, enterStep, fileStep, showStep, withdrawStep}
@@ -47,16 +48,16 @@ module _ {w : List ℕ} (e : sound w ≡ true) {h : Header} (q : Read w h) where
   state-is : State (h .top) (h .maxp) (h .p)
   state-is = state-of (h .top) (h .maxp) (h .p) (rw (top-is, read-store q .1, read-store q .2) at (sound-is w e .0 .fair .state))
 
-  pub size-room : (16 ≤ h .maxp + h .p) × (h .maxp + h .p ≤ h .top) × (h .p < h .maxp)
+  pub size-room : (least ≤ h .maxp + h .p) × (h .maxp + h .p ≤ h .top) × (h .p < h .maxp)
   size-room = (omega (arith, size-low (state-is .size)), state-is .room, state-is .below)
 
-  pub held-word : getD w 5 0 ≡ held (decode w)
+  pub held-word : getD w heldAt 0 ≡ held (decode w)
   held-word = held-at w (decode w) (sound-is w e .0)
 
-  pub filed-word : getD w 6 0 ≡ faultsHeld (decode w)
+  pub filed-word : getD w faultsHeldAt 0 ≡ faultsHeld (decode w)
   filed-word = faults-held-at w (decode w) (sound-is w e .0)
 
-  pub held-room : getD w 5 0 ≤ mostCards
+  pub held-room : getD w heldAt 0 ≤ mostCards
   held-room = omega (arith, held-word, cards-fit (decode w) (sound-good w e .0), ap (λ (sh : Shape). sh .limit) shape-is, q .sized .room)
 
   -- a bucket
@@ -83,7 +84,7 @@ module _ {w : List ℕ} (e : sound w ≡ true) {h : Header} (q : Read w h) where
 
   pub held-history : {y : List ℕ} {i : ℕ} → HeldCell w y h i → length (historyIn (decode w) y) ≤ mostFaults
   held-history {y} {i} k =
-      omega (arith, ap length (k .history), faults-long (shapeIn h) w (cardWord (shapeIn h) w i 6), follow-length (h .faults) (nextFault (shapeIn h) w) (cardWord (shapeIn h) w i 6), q .sized .room)
+      omega (arith, ap length (k .history), faults-long (shapeIn h) w (cardWord (shapeIn h) w i toFirst), follow-length (h .faults) (nextFault (shapeIn h) w) (cardWord (shapeIn h) w i toFirst), q .sized .room)
 
   -- the scans
 
@@ -94,19 +95,19 @@ module _ {w : List ℕ} (e : sound w ≡ true) {h : Header} (q : Read w h) where
   lower-is = ap (λ (sh : Shape). sh .lower) shape-is
 
   module _ (b : ℕ) where
-    pub grow-none : splits (h .top) (h .upper) (getD w 5 0 + 1) (h .maxp + h .p) ≡ false → 0 ≡ growScan (decode w) b
+    pub grow-none : splits (h .top) (h .upper) (getD w heldAt 0 + 1) (h .maxp + h .p) ≡ false → 0 ≡ growScan (decode w) b
     unfolding growScan
     grow-none t = rw (← held-word, top-is, upper-is, read-store q .1, read-store q .2, t)
 
-    pub grow-some : splits (h .top) (h .upper) (getD w 5 0 + 1) (h .maxp + h .p) ≡ true → length (bucket (decode w) (h .p)) + cond (eqb b (h .p)) 1 0 ≡ growScan (decode w) b
+    pub grow-some : splits (h .top) (h .upper) (getD w heldAt 0 + 1) (h .maxp + h .p) ≡ true → length (bucket (decode w) (h .p)) + cond (eqb b (h .p)) 1 0 ≡ growScan (decode w) b
     unfolding growScan
     grow-some t = rw (← held-word, top-is, upper-is, read-store q .1, read-store q .2, t)
 
-    pub shrink-none : contracts (h .lower) (getD w 5 0 - 1) (h .maxp + h .p) ≡ false → 0 ≡ shrinkScan (decode w) b
+    pub shrink-none : contracts (h .lower) (getD w heldAt 0 - 1) (h .maxp + h .p) ≡ false → 0 ≡ shrinkScan (decode w) b
     unfolding shrinkScan
     shrink-none t = rw (← held-word, lower-is, read-store q .1, read-store q .2, t)
 
-    pub shrink-some : contracts (h .lower) (getD w 5 0 - 1) (h .maxp + h .p) ≡ true
+    pub shrink-some : contracts (h .lower) (getD w heldAt 0 - 1) (h .maxp + h .p) ≡ true
         → length (bucket (decode w) (h .maxp + h .p - 1)) - cond (eqb b (h .maxp + h .p - 1)) 1 0 ≡ shrinkScan (decode w) b
     unfolding shrinkScan
     shrink-some t = rw (← held-word, lower-is, read-store q .1, read-store q .2, t)

@@ -10,15 +10,15 @@ use lib.ListN.{length, take, drop}
 use lib.Seq.{length-take-le, take-all}
 use borrow.Author.Tests.{eq-eqb, ne-eqb}
 use Rattle.model.specs.Lists.{between, all}
-use Rattle.model.specs.Serial.{allowed, serialOk, validSerial}
+use Rattle.model.specs.Serial.{mostBytes, allowed, serialOk, validSerial}
 use Rattle.model.proofs.Lists.{between-is}
 use Rattle.store.proofs.Rows.{and-rest, and-fails}
 
-pub valid-parts : (s : List ℕ) (n : ℕ) → length s ≡ 16 → 1 ≤ n → n ≤ 16 → validSerial s n ≡ (all allowed (take n s) && all (eqb 0) (drop n s))
+pub valid-parts : (s : List ℕ) (n : ℕ) → length s ≡ mostBytes → 1 ≤ n → n ≤ mostBytes → validSerial s n ≡ (all allowed (take n s) && all (eqb 0) (drop n s))
 unfolding validSerial serialOk
 valid-parts s n l a b =
     let t : length (take n s) ≡ n = length-take-le n s (omega arith) in
-    let r : between 1 16 (length (take n s)) ≡ true = between-is 1 16 (length (take n s)) .1 (omega arith, omega arith) in
+    let r : between 1 mostBytes (length (take n s)) ≡ true = between-is 1 mostBytes (length (take n s)) .1 (omega arith, omega arith) in
     and-rest _ (eq-eqb (length (take n s)) n t) ∙ ap (λ (x : Bool). x && all (eqb 0) (drop n s)) (and-rest (all allowed (take n s)) r)
 
 pub short-invalid : (s : List ℕ) (n : ℕ) → n < 1 → validSerial s n ≡ false
@@ -26,8 +26,8 @@ unfolding validSerial serialOk between
 short-invalid s zero h = refl
 short-invalid s (suc n) h = absurd (omega arith)
 
-pub long-invalid : (s : List ℕ) (n : ℕ) → length s ≡ 16 → 16 < n → validSerial s n ≡ false
+pub long-invalid : (s : List ℕ) (n : ℕ) → length s ≡ mostBytes → mostBytes < n → validSerial s n ≡ false
 unfolding validSerial
 long-invalid s n l h =
-    let t : length (take n s) ≡ 16 = ap length (take-all n s (omega arith)) ∙ l in
+    let t : length (take n s) ≡ mostBytes = ap length (take-all n s (omega arith)) ∙ l in
     and-fails _ (ne-eqb (length (take n s)) n (omega arith))

@@ -12,7 +12,7 @@ use Rattle.model.specs.Lists.{between}
 use Rattle.model.specs.Serial.{allowed, serialOk, validSerial}
 use Rattle.model.specs.Shape.{Shape}
 use Rattle.model.specs.Model.{Store, chainFor, before, fresh}
-use Rattle.model.specs.Layout.{limitsOk, formatOk, shapeOk, encode, decode, sound}
+use Rattle.model.specs.Layout.{firstLower, firstUpper, limitsOk, formatOk, shapeOk, encode, decode, sound}
 use Rattle.model.specs.Calls.{Answer, scratchNeed}
 use Rattle.model.specs.Runs.{Act, Act.enter, Act.show, perform, Call, Call.opening, Call.acting, outcome}
 use Rattle.model.specs.Deeds.{tidy}
@@ -37,7 +37,7 @@ Honest p = (w : List ℕ) (c : Call) → Meets w c (p w c)
 
 -- a fresh store of one card and one fault, and the serial `7` as it travels
 one-one : Shape
-one-one = record { format = 1; limit = 1; faultLimit = 1; upper = 4; lower = 2 }
+one-one = record { format = 1; limit = 1; faultLimit = 1; upper = firstUpper; lower = firstLower }
 
 limits : shapeOk one-one ≡ true
 unfolding one-one shapeOk formatOk limitsOk between

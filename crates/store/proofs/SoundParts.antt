@@ -15,6 +15,7 @@ use Rattle.rules.proofs.States.{state-of}
 use Rattle.model.specs.Shape.{Shape, topOf}
 use Rattle.model.specs.Lists.{total}
 use Rattle.model.specs.Serial.{validFault}
+use Rattle.model.specs.Layout.{maxpAt, pAt, toFirst, toLast, toCount, toDay, toCode}
 use Rattle.model.specs.Layout.{last, cardWord, faultWord}
 use Rattle.model.specs.Meaning.{times, In, ExactlyOnce, Leads, bucketsIn, bucketWord, nextCard, nextFault, bucketCells, freeCells, historyCells, freeFaultCells, heldCells, filedCells, SoundAs}
 use Rattle.model.proofs.Sums.{bit, total-append, length-total}
@@ -60,7 +61,7 @@ module _ (sh : Shape) (w : List ℕ) (s : SoundAs sh w) where
         chain = s .bucketChain;
         cells = s .cardCells;
         freeGood = λ i p. is-free sh w false i (λ k. s .freeZero i k p);
-        good = λ b i l p. is-card sh w b i (omega (arith, state-of (topOf sh) (getD w 3 0) (getD w 4 0) (s .state) .room)) (first b i l p);
+        good = λ b i l p. is-card sh w b i (omega (arith, state-of (topOf sh) (getD w maxpAt 0) (getD w pAt 0) (s .state) .room)) (first b i l p);
         ends = λ j l. refl;
         held = sym (s .cardsHeld);
       }
@@ -68,33 +69,33 @@ module _ (sh : Shape) (w : List ℕ) (s : SoundAs sh w) where
   -- histories: chain j is that of card j + 1
 
   empty : (i : ℕ) → In i (freeCells sh w) → historyCells sh w i ≡ []
-  empty i p = no-history sh w i (s .freeZero i 6 p (omega arith) (in-card sh (lit< tt)))
+  empty i p = no-history sh w i (s .freeZero i toFirst p (omega arith) (in-card sh (lit< tt)))
 
   of-cell : (P : ℕ → Type 0) (i : ℕ) → 1 ≤ i → i ≤ sh .limit → ((p : In i (freeCells sh w)) → P i) → ((p : In i (heldCells sh w)) → P i) → P i
   of-cell P i a b free card =
       ⊎-elim (λ (p : 0 < times i (freeCells sh w)). free p) (λ (p : times i (freeCells sh w) ≤ 0). card (omega (arith, places i, s .cardCells .once i a b))) (lt? 0 (times i (freeCells sh w)))
 
-  leads : (i : ℕ) → 1 ≤ i → i ≤ sh .limit → Leads (nextFault sh w) (cardWord sh w i 6) (historyCells sh w i)
+  leads : (i : ℕ) → 1 ≤ i → i ≤ sh .limit → Leads (nextFault sh w) (cardWord sh w i toFirst) (historyCells sh w i)
   leads i a b =
-      of-cell (λ i. Leads (nextFault sh w) (cardWord sh w i 6) (historyCells sh w i)) i a b
-      (λ p. subst (Leads (nextFault sh w) (cardWord sh w i 6)) (sym (empty i p)) (s .freeZero i 6 p (omega arith) (in-card sh (lit< tt))))
+      of-cell (λ i. Leads (nextFault sh w) (cardWord sh w i toFirst) (historyCells sh w i)) i a b
+      (λ p. subst (Leads (nextFault sh w) (cardWord sh w i toFirst)) (sym (empty i p)) (s .freeZero i toFirst p (omega arith) (in-card sh (lit< tt))))
       (λ p. s .historyChain i p)
 
-  valid : (i k : ℕ) → 1 ≤ i → i ≤ sh .limit → In k (historyCells sh w i) → validFault (faultWord sh w k 1) (faultWord sh w k 2) ≡ true
+  valid : (i k : ℕ) → 1 ≤ i → i ≤ sh .limit → In k (historyCells sh w i) → validFault (faultWord sh w k toDay) (faultWord sh w k toCode) ≡ true
   valid i k a b =
-      of-cell (λ i. In k (historyCells sh w i) → validFault (faultWord sh w k 1) (faultWord sh w k 2) ≡ true) i a b
+      of-cell (λ i. In k (historyCells sh w i) → validFault (faultWord sh w k toDay) (faultWord sh w k toCode) ≡ true) i a b
       (λ p q. absurd (omega (arith, ap (times k) (empty i p))))
       (λ p. s .faults i k p)
 
-  ended : (i : ℕ) → 1 ≤ i → i ≤ sh .limit → (length (historyCells sh w i) ≡ cardWord sh w i 8) × (last (historyCells sh w i) ≡ cardWord sh w i 7)
+  ended : (i : ℕ) → 1 ≤ i → i ≤ sh .limit → (length (historyCells sh w i) ≡ cardWord sh w i toCount) × (last (historyCells sh w i) ≡ cardWord sh w i toLast)
   unfolding last
   ended i a b =
-      of-cell (λ i. (length (historyCells sh w i) ≡ cardWord sh w i 8) × (last (historyCells sh w i) ≡ cardWord sh w i 7)) i a b
-      (λ p. (ap length (empty i p) ∙ sym (s .freeZero i 8 p (omega arith) (in-card sh (lit< tt))), ap last (empty i p) ∙ sym (s .freeZero i 7 p (omega arith) (in-card sh (lit< tt)))))
+      of-cell (λ i. (length (historyCells sh w i) ≡ cardWord sh w i toCount) × (last (historyCells sh w i) ≡ cardWord sh w i toLast)) i a b
+      (λ p. (ap length (empty i p) ∙ sym (s .freeZero i toCount p (omega arith) (in-card sh (lit< tt))), ap last (empty i p) ∙ sym (s .freeZero i toLast p (omega arith) (in-card sh (lit< tt)))))
       (λ p. (sym (s .faultCounts i p), sym (s .lastFaults i p)))
 
   filed : (g : ℕ → ℕ) → total g (chainsIn sh w true) ≡ total g (filedCells sh w)
-  filed = filed-total sh w (s .cardCells) (λ i p. s .freeZero i 6 p (omega arith) (in-card sh (lit< tt)))
+  filed = filed-total sh w (s .cardCells) (λ i p. s .freeZero i toFirst p (omega arith) (in-card sh (lit< tt)))
 
   fault-cells : ExactlyOnce (sh .faultLimit) (freeIn sh w true ++ chainsIn sh w true)
   unfolding limitOf cellWord freeFaultCells
@@ -114,6 +115,6 @@ module _ (sh : Shape) (w : List ℕ) (s : SoundAs sh w) where
         freeGood = λ i p. is-free sh w true i (λ k. s .freeFaultsZero i k p);
         good = λ j k l p. fault-fits sh w k ∙ valid (j + 1) k (omega arith) (omega arith) p;
         ends = λ j l. let e = ended (j + 1) (omega arith) (omega arith) in
-            all-of (eq-eqb (length (historyCells sh w (j + 1))) (cardWord sh w (j + 1) 8) (e .0)) (eq-eqb (last (historyCells sh w (j + 1))) (cardWord sh w (j + 1) 7) (e .1));
+            all-of (eq-eqb (length (historyCells sh w (j + 1))) (cardWord sh w (j + 1) toCount) (e .0)) (eq-eqb (last (historyCells sh w (j + 1))) (cardWord sh w (j + 1) toLast) (e .1));
         held = length-total (chainsIn sh w true) ∙ filed (λ x. 1) ∙ sym (length-total (filedCells sh w)) ∙ sym (s .faultsHeld);
       }

@@ -10,6 +10,7 @@ use lib.ListN.{length, getD, length-map}
 use Rattle.rules.proofs.Tests.{all-of}
 use Rattle.model.specs.Lists.{between, all, join, total}
 use Rattle.model.specs.Model.{Fault, Card, Store, cards, bucket, cellsOf, faultCellsOf}
+use Rattle.model.specs.Layout.{toFirst, toLast, toCount}
 use Rattle.model.specs.Layout.{Cell, atsOf, headOr, chained, cardWidth, faultWidth, segmentsAt, cardsAt, faultsAt, first, last, follow, cardCell, faultCell, cardChains, faultChains, front, cardWord, faultWord, readCard, readChain, decodeAs, decode}
 use Rattle.model.specs.Meaning.{Leads, nextCard, nextFault}
 use Rattle.model.proofs.Lists.{between-is, map-append, Every, every-parts, every-join}
@@ -51,10 +52,10 @@ held-ends w base width n chains z e r j =
 pub record Stored (w : List ℕ) (s : Store) (c : Card) (after : List Card) : Type 0 where
   pub from-one : 1 ≤ c .at
   pub in-limit : c .at ≤ s .shape .limit
-  pub last-word : cardWord (s .shape) w (c .at) 7 ≡ last (faultCellsOf (c .faults))
-  pub count-word : cardWord (s .shape) w (c .at) 8 ≡ length (c .faults)
-  pub history : faultsFrom (s .shape) w (cardWord (s .shape) w (c .at) 6) ≡ c .faults
-  pub history-ends : Ends (s .shape .faultLimit) (nextFault (s .shape) w) (cardWord (s .shape) w (c .at) 6)
+  pub last-word : cardWord (s .shape) w (c .at) toLast ≡ last (faultCellsOf (c .faults))
+  pub count-word : cardWord (s .shape) w (c .at) toCount ≡ length (c .faults)
+  pub history : faultsFrom (s .shape) w (cardWord (s .shape) w (c .at) toFirst) ≡ c .faults
+  pub history-ends : Ends (s .shape .faultLimit) (nextFault (s .shape) w) (cardWord (s .shape) w (c .at) toFirst)
 
 module _ {w : List ℕ} {s : Store} (r : Rep w s) where
   -- buckets
@@ -92,13 +93,13 @@ module _ {w : List ℕ} {s : Store} (r : Rep w s) where
       go [] f = tt
       go (c ∷ cs) f = (rw (head-faults (c .faults)) (f 0), go cs (λ j. f (suc j)))
 
-  filed-read : (b : ℕ) → b < length (s .buckets) → Every (λ c. faultsFrom (s .shape) w (cardWord (s .shape) w (c .at) 6) ≡ c .faults) (bucket s b)
+  filed-read : (b : ℕ) → b < length (s .buckets) → Every (λ c. faultsFrom (s .shape) w (cardWord (s .shape) w (c .at) toFirst) ≡ c .faults) (bucket s b)
   unfolding readChain readCard faultsFrom
   filed-read b h =
-      subst (Every (λ (c : Card). faultsFrom (s .shape) w (cardWord (s .shape) w (c .at) 6) ≡ c .faults)) (read-chain w s r b h)
+      subst (Every (λ (c : Card). faultsFrom (s .shape) w (cardWord (s .shape) w (c .at) toFirst) ≡ c .faults)) (read-chain w s r b h)
       (go (follow (s .shape .limit) (nextCard (s .shape) w) (getD w (segmentsAt (s .shape) + b) 0)))
     where
-      go : (l : List ℕ) → Every (λ (c : Card). faultsFrom (s .shape) w (cardWord (s .shape) w (c .at) 6) ≡ c .faults) (map (readCard (s .shape) w) l)
+      go : (l : List ℕ) → Every (λ (c : Card). faultsFrom (s .shape) w (cardWord (s .shape) w (c .at) toFirst) ≡ c .faults) (map (readCard (s .shape) w) l)
       go [] = tt
       go (i ∷ l) = (refl, go l)
 
@@ -109,15 +110,15 @@ module _ {w : List ℕ} {s : Store} (r : Rep w s) where
       let q = stand-parts (cardWidth (s .shape)) (cellIn w (cardsAt (s .shape)) (cardWidth (s .shape))) (chained (c .at) (map cardCell front)) (chained 0 (map cardCell (c ∷ after)))
       (subst (Stand (cellIn w (cardsAt (s .shape)) (cardWidth (s .shape))) (cardWidth (s .shape))) (ap (λ (l : List Card). chained 0 (map cardCell l)) e ∙ ap (chained 0) (map-append cardCell front (c ∷ after)) ∙ chained-append 0 (map cardCell front) (map cardCell (c ∷ after))) (bucket-stand b)) .1 .0 in
       let f = one (λ c. Ends (s .shape .faultLimit) (nextFault (s .shape) w) (first (faultCellsOf (c .faults)))) (every-join _ (s .buckets) filed-ends b) in
-      let g = one (λ c. faultsFrom (s .shape) w (cardWord (s .shape) w (c .at) 6) ≡ c .faults) (filed-read b h) in
+      let g = one (λ c. faultsFrom (s .shape) w (cardWord (s .shape) w (c .at) toFirst) ≡ c .faults) (filed-read b h) in
       let i = inside in
       record {
         from-one = i .0;
         in-limit = i .1;
-        last-word = q 7 (in-card (s .shape) (lit< tt));
-        count-word = q 8 (in-card (s .shape) (lit< tt)) ∙ length-map (c .faults) (λ (f : Fault). f .at);
+        last-word = q toLast (in-card (s .shape) (lit< tt));
+        count-word = q toCount (in-card (s .shape) (lit< tt)) ∙ length-map (c .faults) (λ (f : Fault). f .at);
         history = g;
-        history-ends = rw (q 6 (in-card (s .shape) (lit< tt))) f;
+        history-ends = rw (q toFirst (in-card (s .shape) (lit< tt))) f;
       }
     where
       one : (P : Card → Type 0) → Every P (bucket s b) → P c

@@ -8,6 +8,7 @@ use lib.ListN.{set}
 use Rattle.rules.specs.Table.{highMaxp, highP, lowMaxp, lowP}
 use Rattle.rules.proofs.Tests.{eq?}
 use Rattle.rules.proofs.Addresses.{shrunk-on, shrunk-over}
+use Rattle.model.specs.Layout.{maxpAt, pAt}
 use Rattle.model.specs.Layout.{segmentsAt}
 use Rattle.model.specs.Meaning.{bucketWord, bucketCells}
 use Rattle.model.specs.Words.{linkAt, openWords, closeWords, partWords, splitWords, joinWords}
@@ -20,7 +21,7 @@ pub split-words : {w w₁ w₂ w₃ : List ℕ} {h : Header} {m₁ p₁ : ℕ} �
     → w₁ ≡ partWords (h .cards) (shapeIn h) (h .maxp) (h .p) w 0 0 (bucketWord (shapeIn h) w (h .p))
     → w₂ ≡ openWords (shapeIn h) w₁ (h .maxp + h .p)
     → m₁ ≡ highMaxp (h .maxp) (h .p) → p₁ ≡ highP (h .maxp) (h .p)
-    → w₃ ≡ set (set w₂ 3 m₁) 4 p₁
+    → w₃ ≡ set (set w₂ maxpAt m₁) pAt p₁
     → w₃ ≡ splitWords (shapeIn h) w
 unfolding splitWords
 split-words r e₁ e₂ a b e₃ = rw (e₃, e₂, e₁, a, b, r .maxp, r .state)
@@ -40,7 +41,7 @@ module _ {w : List ℕ} {h : Header} {b k : ℕ} (pre : MayJoin w h) (low : b �
       → w₂ ≡ set w₁ (segmentsAt (shapeIn h) + (h .maxp + h .p - 1)) 0
       → w₃ ≡ closeWords (shapeIn h) w₂ (h .maxp + h .p - 1)
       → m₁ ≡ lowMaxp (h .maxp) (h .p)
-      → w₄ ≡ set (set w₃ 3 m₁) 4 b
+      → w₄ ≡ set (set w₃ maxpAt m₁) pAt b
       → w₄ ≡ joinWords (shapeIn h) w (lastOf (shapeIn h) w (lowP (h .maxp) (h .p)))
   unfolding joinWords lastOf bucketCells lastFrom
   join-words d e₁ e₂ e₃ a e₄ = let r = pre .read in rw (e₄, e₃, e₂, e₁, d, a, end, low, r .maxp, r .state)

@@ -13,6 +13,7 @@ use lib.Seq.{sets, take-set-le, take-set-lt, drop-set-lt, drop-set-add}
 use borrow.Author.Tests.{eq-eqb, ne-eqb}
 use borrow.Rule.Slice.PartMut.{midOf, putMid, mid-len, put-same, set-mid-at}
 use Rattle.model.specs.Shape.{Shape}
+use Rattle.model.specs.Layout.{heldAt, faultsHeldAt, freeAt, freeFaultsAt, toNext, toFirst, toLast, toCount}
 use Rattle.model.specs.Layout.{segmentsAt, cardWidth, faultWidth, cardsAt, faultsAt, cellAt, packed, cardWord, faultWord}
 use Rattle.model.specs.Serial.{validSerial}
 use Rattle.model.specs.Words.{cardAt, faultAt, linkAt, newWords, placeWords, fileWords, giveWords, removeWords}
@@ -87,7 +88,7 @@ module _ {w : List ℕ} {h : Header} (s : Sized w h) where
         ∙ (λ t. set w (s .base t + (s .width t * (i - 1) + k)) v) ∙ ap (λ (n : ℕ). set w n v) (omega arith)
 
     pub card-cell-lent : (vs : List ℕ) → i ≤ h .cards → length vs ≤ h .width
-        → ys ≡ sets (midOf (h .base) (h .behind - h .base) w) (h .width * (i - 1)) vs → putMid (h .base) (h .behind - h .base) w ys ≡ sets w (cardAt (shapeIn h) i 0) vs
+        → ys ≡ sets (midOf (h .base) (h .behind - h .base) w) (h .width * (i - 1)) vs → putMid (h .base) (h .behind - h .base) w ys ≡ sets w (cardAt (shapeIn h) i toNext) vs
     unfolding cellAt
     card-cell-lent vs b l r =
         let m = s .room in
@@ -103,7 +104,7 @@ module _ {w : List ℕ} {h : Header} (s : Sized w h) where
         lent-set w ys (h .behind) (length w) (faultWidth * (i - 1) + k) v (omega arith) r (omega arith) ∙ ap (λ (n : ℕ). set w n v) (omega (arith, s .behind))
 
     pub fault-cell-lent : (vs : List ℕ) → i ≤ h .faults → length vs ≡ faultWidth
-        → ys ≡ sets (midOf (h .behind) (length w - h .behind) w) (faultWidth * (i - 1)) vs → putMid (h .behind) (length w - h .behind) w ys ≡ sets w (faultAt (shapeIn h) i 0) vs
+        → ys ≡ sets (midOf (h .behind) (length w - h .behind) w) (faultWidth * (i - 1)) vs → putMid (h .behind) (length w - h .behind) w ys ≡ sets w (faultAt (shapeIn h) i toNext) vs
     unfolding cellAt
     fault-cell-lent vs b l r =
         let m = s .room in
@@ -114,7 +115,7 @@ pub link-bucket : (sh : Shape) (b : ℕ) {i : ℕ} → i ≡ 0 → segmentsAt sh
 unfolding linkAt
 link-bucket sh b {i} e = rw (eq-eqb i 0 e)
 
-pub link-card : (sh : Shape) (b : ℕ) {i : ℕ} → (i ≡ 0 → ⊥) → cardAt sh i 0 ≡ linkAt sh b i
+pub link-card : (sh : Shape) (b : ℕ) {i : ℕ} → (i ≡ 0 → ⊥) → cardAt sh i toNext ≡ linkAt sh b i
 unfolding linkAt
 link-card sh b {i} e = rw (ne-eqb i 0 e)
 
@@ -128,22 +129,22 @@ new-words bytes n v =
 -- The changes, by the equations that their code goes through
 
 pub place-is : (sh : Shape) (w : List ℕ) (b i : ℕ) (bytes : List ℕ) (n : ℕ) → validSerial bytes n ≡ true → {new next held : ℕ} {key w₁ w₂ w₃ w₄ : List ℕ}
-    → new ≡ getD w 7 0 → next ≡ cardWord sh w new 0 → held ≡ getD w 5 0 → key ≡ packedAll bytes → w₁ ≡ set w 7 next
-    → w₂ ≡ sets w₁ (cardAt sh new 0) (0 ∷ n ∷ getD key 0 0 ∷ getD key 1 0 ∷ getD key 2 0 ∷ getD key 3 0 ∷ 0 ∷ 0 ∷ 0 ∷ [])
-    → w₃ ≡ set w₂ (linkAt sh b i) new → w₄ ≡ set w₃ 5 (held + 1) → w₄ ≡ placeWords sh w b i (take n bytes)
+    → new ≡ getD w freeAt 0 → next ≡ cardWord sh w new toNext → held ≡ getD w heldAt 0 → key ≡ packedAll bytes → w₁ ≡ set w freeAt next
+    → w₂ ≡ sets w₁ (cardAt sh new toNext) (0 ∷ n ∷ getD key 0 0 ∷ getD key 1 0 ∷ getD key 2 0 ∷ getD key 3 0 ∷ 0 ∷ 0 ∷ 0 ∷ [])
+    → w₃ ≡ set w₂ (linkAt sh b i) new → w₄ ≡ set w₃ heldAt (held + 1) → w₄ ≡ placeWords sh w b i (take n bytes)
 unfolding placeWords
 place-is sh w b i bytes n v new next held key e₁ e₂ e₃ e₄ = rw (e₄, e₃, e₂, e₁, key, held, next, new, new-words bytes n v)
 
 pub file-is : (sh : Shape) (w : List ℕ) (i day code : ℕ) → {new next last count held : ℕ} {w₁ w₂ w₃ w₄ : List ℕ}
-    → new ≡ getD w 8 0 → next ≡ faultWord sh w new 0 → last ≡ cardWord sh w i 7 → count ≡ cardWord sh w i 8 → held ≡ getD w 6 0 → w₁ ≡ set w 8 next
-    → w₂ ≡ sets w₁ (faultAt sh new 0) (0 ∷ day ∷ code ∷ []) → w₃ ≡ set w₂ (cond (eqb last 0) (cardAt sh i 6) (faultAt sh last 0)) new
-    → w₄ ≡ set (set (set w₃ (cardAt sh i 7) new) (cardAt sh i 8) (count + 1)) 6 (held + 1) → w₄ ≡ fileWords sh w i day code
+    → new ≡ getD w freeFaultsAt 0 → next ≡ faultWord sh w new toNext → last ≡ cardWord sh w i toLast → count ≡ cardWord sh w i toCount → held ≡ getD w faultsHeldAt 0 → w₁ ≡ set w freeFaultsAt next
+    → w₂ ≡ sets w₁ (faultAt sh new toNext) (0 ∷ day ∷ code ∷ []) → w₃ ≡ set w₂ (cond (eqb last 0) (cardAt sh i toFirst) (faultAt sh last toNext)) new
+    → w₄ ≡ set (set (set w₃ (cardAt sh i toLast) new) (cardAt sh i toCount) (count + 1)) faultsHeldAt (held + 1) → w₄ ≡ fileWords sh w i day code
 unfolding fileWords
 file-is sh w i day code new next last count held e₁ e₂ e₃ e₄ = rw (e₄, e₃, e₂, e₁, held, count, last, next, new)
 
-pub remove-is : (sh : Shape) (w : List ℕ) (b h i : ℕ) {next first last count free cards faults : ℕ} {w₁ w₂ w₃ w₄ : List ℕ} → next ≡ cardWord sh w i 0 → first ≡ cardWord sh w i 6
-    → last ≡ cardWord sh w i 7 → count ≡ cardWord sh w i 8 → free ≡ getD w 7 0 → cards ≡ getD w 5 0 → faults ≡ getD w 6 0 → w₁ ≡ giveWords sh w first last
-    → w₂ ≡ set w₁ (linkAt sh b h) next → w₃ ≡ set (sets w₂ (cardAt sh i 0) (free ∷ replicate (cardWidth sh - 1) 0)) 7 i
-    → w₄ ≡ set (set w₃ 5 (cards - 1)) 6 (faults - count) → w₄ ≡ removeWords sh w b h i
+pub remove-is : (sh : Shape) (w : List ℕ) (b h i : ℕ) {next first last count free cards faults : ℕ} {w₁ w₂ w₃ w₄ : List ℕ} → next ≡ cardWord sh w i toNext → first ≡ cardWord sh w i toFirst
+    → last ≡ cardWord sh w i toLast → count ≡ cardWord sh w i toCount → free ≡ getD w freeAt 0 → cards ≡ getD w heldAt 0 → faults ≡ getD w faultsHeldAt 0 → w₁ ≡ giveWords sh w first last
+    → w₂ ≡ set w₁ (linkAt sh b h) next → w₃ ≡ set (sets w₂ (cardAt sh i toNext) (free ∷ replicate (cardWidth sh - 1) 0)) freeAt i
+    → w₄ ≡ set (set w₃ heldAt (cards - 1)) faultsHeldAt (faults - count) → w₄ ≡ removeWords sh w b h i
 unfolding removeWords
 remove-is sh w b h i next first last count free cards faults e₁ e₂ e₃ e₄ = rw (e₄, e₃, e₂, e₁, faults, cards, free, count, last, first, next)

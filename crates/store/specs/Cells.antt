@@ -8,10 +8,10 @@ use lib.ListN.{length, take, getD}
 use Rattle.rules.specs.Code.{codeOf}
 use Rattle.rules.specs.Table.{top, addressOf}
 use Rattle.model.specs.Lists.{between, all, from}
-use Rattle.model.specs.Shape.{Shape, topOf}
+use Rattle.model.specs.Shape.{segmentSize, Shape, topOf}
 use Rattle.model.specs.Serial.{validSerial, validFault}
 use Rattle.model.specs.Layout.{maxpAt, pAt, toNext, toLength, toSerial, toDay, toCode}
-use Rattle.model.specs.Layout.{mostCards, mostFaults, directoryAt, segmentsAt, cardWidth, faultWidth, cardsAt, faultsAt, lengthFor, shapeOk, shapeOf, cardWord, faultWord, packed, bytesOf}
+use Rattle.model.specs.Layout.{farthest, leastEntries, leastWidth, mostCards, mostFaults, directoryAt, segmentsAt, cardWidth, faultWidth, cardsAt, faultsAt, lengthFor, shapeOk, shapeOf, cardWord, faultWord, packed, bytesOf}
 use Rattle.model.specs.Calls.{Terms}
 use Rattle.store.specs.declared.front.Shape as told
 use Rattle.store.specs.declared.cells.Header.{Header}
@@ -29,14 +29,14 @@ asked cards faults = record { cards = cards; faults = faults }
 
 -- the layout of a header in numbers, and that so many words hold it
 pub record Room (w : List ℕ) (h : Header) : Type 0 where
-  pub first : directoryAt + 16 ≤ h .segments
-  pub least : 256 ≤ h .top
+  pub first : directoryAt + leastEntries ≤ h .segments
+  pub least : segmentSize * leastEntries ≤ h .top
   pub most : h .top ≤ top
   pub table : h .base ≡ h .segments + h .top
   pub within : h .base ≤ h .behind
   pub whole : length w ≡ h .behind + faultWidth * h .faults
-  pub few : length w < 65536
-  pub nine : 9 ≤ h .width
+  pub few : length w < farthest
+  pub wide : leastWidth ≤ h .width
   pub cards : 1 ≤ h .cards
   pub faults : 1 ≤ h .faults
   pub mostCards : h .cards ≤ mostCards

@@ -4,7 +4,7 @@ ghost use mathlib.Core.Bool.{true};
 ghost use Prim.Native.Nat.{_+_, _≤_, _<_};
 ghost use lib.ListN.{length};
 ghost use Rattle.model.specs.Shape.{topOf};
-ghost use Rattle.model.specs.Layout.{directoryAt, segmentsAt, cardWidth, cardsAt, faultsAt, lengthFor, limitsOk, formatOk, boundsWord, ruleWord, shapeOk, shapeOf};
+ghost use Rattle.model.specs.Layout.{directoryAt, segmentsAt, cardWidth, cardsAt, faultsAt, lengthFor, farthest, limitsOk, formatOk, boundsWord, ruleWord, shapeOk, shapeOf};
 ghost use Rattle.model.specs.Calls.{shapeFor};
 ghost use Rattle.store.specs.Cells.{shapeBy, shapeIn, asked, Sized, Read};
 ghost use Rattle.store.specs.Checker.{limitsFit, endsFit, offsetsFit, loadFits, entryFor, directoryFits, restFits, tableFits, frontFits};
@@ -224,7 +224,7 @@ fn load_fits(h: Header, n: u32, b: u32) -> bool
 
 // The directory word of segment k with b buckets, where the segments begin at `segments`.
 fn entry_for(segments: u32, b: u32, k: u32) -> u32
-    requires { ⌜ (k < 65536) × (segments < 65536) ⌝ }
+    requires { ⌜ (k < farthest) × (segments < farthest) ⌝ }
     ensures { λ r. ⌜ r ≡ entryFor segments b k ⌝ }
 {
     if layout::SEGMENT * k < b {

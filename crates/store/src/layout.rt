@@ -49,19 +49,21 @@ pub const BOUNDS: usize = 14;
 
 pub const RULE: usize = 15;
 
-// The buckets of a segment.
+// The buckets of a segment, the entries of the directory, and the most buckets that they make; the fewest.
 pub const SEGMENT: u32 = 16;
 
-// Where the directory, the segments and the card cells begin. Code behind the checker takes the last two from the header.
-pub const DIRECTORY: usize = 16;
+pub const ENTRIES: u32 = 16;
 
-pub const SEGMENTS: usize = 32;
+pub const TOP: u32 = SEGMENT * ENTRIES;
+
+pub use rules::LEAST;
+
+// Where the directory, the segments and the card cells begin. Code behind the checker takes the last two from the header.
+pub const DIRECTORY: usize = HEADER;
+
+pub const SEGMENTS: usize = DIRECTORY + ENTRIES as usize;
 
 pub const CARDS: usize = SEGMENTS + TOP as usize;
-
-// The fewest buckets and the most.
-pub use rules::LEAST;
-pub use rules::TOP;
 
 // How many words the header, a card cell and a fault cell have.
 pub const HEADER: usize = 16;

@@ -8,7 +8,7 @@ ghost use lib.Dec.{eqb};
 ghost use lib.ListN.{length, set, take, replicate};
 ghost use lib.Seq.{sets};
 ghost use Rattle.model.specs.Serial.{validSerial};
-ghost use Rattle.model.specs.Layout.{heldAt, faultsHeldAt, freeAt, toNext, toFirst, toLast, toCount, segmentsAt, cardWidth, faultWidth, follow, last as lastOf};
+ghost use Rattle.model.specs.Layout.{heldAt, faultsHeldAt, freeAt, toNext, toFirst, toLast, toCount, segmentsAt, cardWidth, faultWidth, leastWidth, follow, last as lastOf};
 ghost use Rattle.model.specs.Meaning.{nextFault};
 ghost use Rattle.model.specs.Words.{cardAt, faultAt, linkAt, placeWords, fileWords, clearWords, giveWords, removeWords};
 ghost use Rattle.store.specs.Cells.{shapeIn, Sized};
@@ -50,7 +50,7 @@ fn set_card(cards: &mut [u32], width: usize, i: u32, k: usize, v: u32)
 
 // The whole of card cell i.
 fn fill_card(cards: &mut [u32], width: usize, i: u32, words: [u32; layout::CARD])
-    requires { ⌜ (1 ≤ i) × (width * i ≤ length (now cards)) × (9 ≤ width) ⌝ }
+    requires { ⌜ (1 ≤ i) × (width * i ≤ length (now cards)) × (leastWidth ≤ width) ⌝ }
     ensures { λ _. ⌜ now (cards .exit) ≡ sets (now (cards .entry)) (width * (i - 1)) words ⌝ }
 {
     let cell = (i - 1) as usize;

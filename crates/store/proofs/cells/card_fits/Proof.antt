@@ -6,6 +6,7 @@ use lib.ListN.{take, getD}
 use Rattle.rules.specs.Code.{codeOf}
 use Rattle.rules.specs.Table.{addressOf}
 use Rattle.model.specs.Serial.{validSerial}
+use Rattle.model.specs.Layout.{maxpAt, pAt, toLength}
 use Rattle.model.specs.Layout.{cardWord}
 use Rattle.store.specs.Cells.{shapeIn, bytesAt, cardFits}
 use Rattle.store.proofs.Rows.{and-rest, and-fails}
@@ -13,11 +14,11 @@ use Rattle.store.proofs.cells.card_fits.Statement.{statement}
 use Rattle.store.proofs.cells.card_fits.Tie as tie
 
 -- the serial is tested as it stands in the cell
-valid : (c : tie.After-valid-serial) → (c .valid-serial .result ≡ validSerial (bytesAt (shapeIn (c .before .before .before .before .args .h)) (c .before .before .before .before .args .w .now) (c .before .before .before .before .args .i)) (cardWord (shapeIn (c .before .before .before .before .args .h)) (c .before .before .before .before .args .w .now) (c .before .before .before .before .args .i) 1))
+valid : (c : tie.After-valid-serial) → (c .valid-serial .result ≡ validSerial (bytesAt (shapeIn (c .before .before .before .before .args .h)) (c .before .before .before .before .args .w .now) (c .before .before .before .before .args .i)) (cardWord (shapeIn (c .before .before .before .before .args .h)) (c .before .before .before .before .args .w .now) (c .before .before .before .before .args .i) toLength))
 valid c = rw (← (c .before .bytes-at .ensures), ← (c .before .before .card-word .ensures)) (c .valid-serial .ensures)
 
 -- and so is its address
-address : (c : tie.After-reader-address) → (c .reader-address .result ≡ addressOf (codeOf (take (cardWord (shapeIn (c .before .before .before .before .before .before .before .args .h)) (c .before .before .before .before .before .before .before .args .w .now) (c .before .before .before .before .before .before .before .args .i) 1) (bytesAt (shapeIn (c .before .before .before .before .before .before .before .args .h)) (c .before .before .before .before .before .before .before .args .w .now) (c .before .before .before .before .before .before .before .args .i)))) (getD (c .before .before .before .before .before .before .before .args .w .now) 3 0) (getD (c .before .before .before .before .before .before .before .args .w .now) 4 0))
+address : (c : tie.After-reader-address) → (c .reader-address .result ≡ addressOf (codeOf (take (cardWord (shapeIn (c .before .before .before .before .before .before .before .args .h)) (c .before .before .before .before .before .before .before .args .w .now) (c .before .before .before .before .before .before .before .args .i) toLength) (bytesAt (shapeIn (c .before .before .before .before .before .before .before .args .h)) (c .before .before .before .before .before .before .before .args .w .now) (c .before .before .before .before .before .before .before .args .i)))) (getD (c .before .before .before .before .before .before .before .args .w .now) maxpAt 0) (getD (c .before .before .before .before .before .before .before .args .w .now) pAt 0))
 address c =
     let r = c .before .before .before .before .before .before .before .pre .0 in
     rw (r .maxp, r .state, ← (c .before .before .before .before .bytes-at .ensures), ← (c .before .before .before .before .before .card-word .ensures), ← (c .before .serial-code .ensures)) (c .reader-address .ensures)

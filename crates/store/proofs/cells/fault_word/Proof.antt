@@ -3,11 +3,12 @@ use native.Mathlib.Omega.{arith}
 use borrow.Author.Needs.{needs}
 use Prim.Native.Nat.{_<_, _+_, _*_, _-_}
 use lib.ListN.{length}
+use Rattle.model.specs.Layout.{faultWidth}
 use Rattle.store.proofs.CellLaws.{fault-in, fault-is}
 use Rattle.store.proofs.cells.fault_word.Statement.{statement}
 use Rattle.store.proofs.cells.fault_word.Tie as tie
 
-inside : (c : tie.Start) → c .args .h .behind + 3 * (c .args .i - 1) + c .args .k < length (c .args .w .now)
+inside : (c : tie.Start) → c .args .h .behind + faultWidth * (c .args .i - 1) + c .args .k < length (c .args .w .now)
 inside c = fault-in (c .pre .0) _ _ (c .pre .1) (c .pre .2) (c .pre .3)
 
 mul-result : tie.Need-mul-result

@@ -8,7 +8,7 @@ use borrow.Rule.Slice.PartMut.{putMid, mid-len}
 use lib.ListN.{length}
 use Rattle.model.specs.Shape.{Shape, topOf}
 use Rattle.model.specs.Model.{fresh}
-use Rattle.model.specs.Layout.{cardWidth, faultWidth, cardsAt, faultsAt, lengthFor, segmentsAt, header, directory, segments}
+use Rattle.model.specs.Layout.{directoryAt, farthest, cardWidth, faultWidth, cardsAt, faultsAt, lengthFor, segmentsAt, header, directory, segments}
 use Rattle.model.proofs.Rep.{segments-length}
 use Rattle.model.proofs.Fresh.{fair-fresh}
 use Rattle.store.specs.Fresh.{cellsTo}
@@ -19,11 +19,11 @@ use Rattle.store.proofs.fresh.fill_parts.Tie as tie
 
 -- the parts of the words, by the numbers that they begin at
 record Parts (s : tie.Start) : Type 0 where
-  one : 16 ≤ s .args .segments
+  one : directoryAt ≤ s .args .segments
   two : s .args .segments + topOf (shapeBy (s .args .s)) ≡ s .args .base
   three : s .args .base + s .args .width * s .args .s .cards ≡ s .args .behind
-  four : s .args .behind + 3 * s .args .s .faults ≡ lengthFor (shapeBy (s .args .s))
-  few : lengthFor (shapeBy (s .args .s)) < 65536
+  four : s .args .behind + faultWidth * s .args .s .faults ≡ lengthFor (shapeBy (s .args .s))
+  few : lengthFor (shapeBy (s .args .s)) < farthest
   wide : 0 < s .args .width
 
 parts : (s : tie.Start) → Parts s

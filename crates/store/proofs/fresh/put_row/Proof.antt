@@ -5,21 +5,22 @@ use Prim.Native.Nat.{_≤_, _-_}
 use native.Mathlib.Omega.{arith}
 use borrow.Author.Needs.{needs}
 use lib.ListN.{length, take, drop, length-set}
+use Rattle.model.specs.Layout.{directoryAt}
 use Rattle.model.proofs.Lists.{copy-more}
 use Rattle.store.proofs.FreshLaws.{all-copied}
 use Rattle.store.proofs.fresh.put_row.Statement.{statement}
 use Rattle.store.proofs.fresh.put_row.Tie as tie
 
 abbrev Inv-loop : tie.InvT-loop
-Inv-loop part₀ row i₀ part i = (i ≤ 16) × (length part ≡ length part₀) × (part ≡ take i row ++ drop i part₀)
+Inv-loop part₀ row i₀ part i = (i ≤ directoryAt) × (length part ≡ length part₀) × (part ≡ take i row ++ drop i part₀)
 
 abbrev μ-loop : tie.MeasureT-loop
-μ-loop part₀ row i₀ part i = 16 - i
+μ-loop part₀ row i₀ part i = directoryAt - i
 
 loop-holds : tie.Need-loop-holds Inv-loop μ-loop
 loop-holds c = (omega arith, refl, refl)
 
-long : (c : tie.Start Inv-loop μ-loop) → length (c .args .t2) ≡ 16
+long : (c : tie.Start Inv-loop μ-loop) → length (c .args .t2) ≡ directoryAt
 long c = search needs
 
 loop-again : tie.Need-loop-again Inv-loop μ-loop

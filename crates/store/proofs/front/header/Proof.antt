@@ -5,13 +5,13 @@ use native.Mathlib.Omega.{arith}
 use borrow.Author.Needs.{needs}
 use Prim.Native.Nat.{_≤_}
 use lib.ListN.{length}
-use Rattle.model.specs.Layout.{cardWidth}
+use Rattle.model.specs.Layout.{directoryAt, cardWidth}
 use Rattle.model.specs.Shape.{topOf}
 use Rattle.store.proofs.FrontLaws.{fit-is, fit-read}
 use Rattle.store.proofs.front.header.Statement.{statement}
 use Rattle.store.proofs.front.header.Tie as tie
 
-head : (c : tie.Start) → 16 ≤ length (c .args .w .now)
+head : (c : tie.Start) → directoryAt ≤ length (c .args .w .now)
 head c = fit-is _ (c .pre .0) .head
 
 returns : tie.Need-returns

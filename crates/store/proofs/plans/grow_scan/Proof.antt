@@ -10,6 +10,7 @@ use Rattle.rules.specs.Table.{splits}
 use Rattle.store.proofs.PlanLaws.{size-room, held-room, bucket-room, grow-none, grow-some}
 use Rattle.store.proofs.plans.grow_scan.Statement.{statement}
 use Rattle.store.proofs.plans.grow_scan.Tie as tie
+use Rattle.model.specs.Layout.{heldAt}
 
 abbrev start : tie.After-must-split → tie.Start
 start c = c .before .before .before .before
@@ -27,7 +28,7 @@ returns c =
     (rw (← (c .before .before .before .word .ensures)) (sym (c .before .must-split .ensures) ∙ not-true (c .before .must-split .result) (c .if1 .taken)))
 
 -- past the test bucket p is split
-splits-p : (c : tie.Else1) → splits (start (c .before) .args .h .top) (start (c .before) .args .h .upper) (getD (start (c .before) .args .w .now) 5 0 + 1) (start (c .before) .args .h .maxp + start (c .before) .args .h .p) ≡ true
+splits-p : (c : tie.Else1) → splits (start (c .before) .args .h .top) (start (c .before) .args .h .upper) (getD (start (c .before) .args .w .now) heldAt 0 + 1) (start (c .before) .args .h .maxp + start (c .before) .args .h .p) ≡ true
 splits-p c = rw (← (c .before .before .before .word .ensures)) (sym (c .before .must-split .ensures) ∙ not-false (c .before .must-split .result) (c .if1 .left))
 
 bucket-len-requires : tie.Need-bucket-len-requires

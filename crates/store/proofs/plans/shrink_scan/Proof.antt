@@ -10,6 +10,7 @@ use Rattle.rules.specs.Table.{contracts}
 use Rattle.store.proofs.PlanLaws.{size-room, shrink-none, shrink-some}
 use Rattle.store.proofs.plans.shrink_scan.Statement.{statement}
 use Rattle.store.proofs.plans.shrink_scan.Tie as tie
+use Rattle.model.specs.Layout.{heldAt}
 
 abbrev start : tie.After-must-contract → tie.Start
 start c = c .before .before .before .before .before
@@ -24,7 +25,7 @@ returns c =
     (rw (← (c .before .before .before .before .word .ensures), ← (c .before .before .less .ensures)) (sym (c .before .must-contract .ensures) ∙ not-true (c .before .must-contract .result) (c .if1 .taken)))
 
 -- past the test the last bucket is joined
-joins : (c : tie.Else1) → contracts (start (c .before) .args .h .lower) (getD (start (c .before) .args .w .now) 5 0 - 1) (start (c .before) .args .h .maxp + start (c .before) .args .h .p) ≡ true
+joins : (c : tie.Else1) → contracts (start (c .before) .args .h .lower) (getD (start (c .before) .args .w .now) heldAt 0 - 1) (start (c .before) .args .h .maxp + start (c .before) .args .h .p) ≡ true
 joins c =
     rw (← (c .before .before .before .before .word .ensures), ← (c .before .before .less .ensures)) (sym (c .before .must-contract .ensures) ∙ not-false (c .before .must-contract .result) (c .if1 .left))
 

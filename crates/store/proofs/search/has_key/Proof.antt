@@ -8,12 +8,13 @@ use Rattle.store.specs.Cells.{shapeIn}
 use Rattle.store.proofs.SearchLaws.{keyFrom, key-other, key-start, key-more, key-fails, key-ends}
 use Rattle.store.proofs.search.has_key.Statement.{statement}
 use Rattle.store.proofs.search.has_key.Tie as tie
+use Rattle.model.specs.Layout.{serialWords}
 
 abbrev Inv-loop : tie.InvT-loop
 Inv-loop w h i len key k₀ k = keyFrom (shapeIn h) w i key k ≡ hasKey (shapeIn h) w i len key
 
 abbrev μ-loop : tie.MeasureT-loop
-μ-loop w h i len key k₀ k = 4 - k
+μ-loop w h i len key k₀ k = serialWords - k
 
 returns : tie.Need-returns Inv-loop μ-loop
 returns c = sym (key-other _ _ _ _ _ (λ e. c .if1 .taken (c .before .card-word .ensures ∙ e)))

@@ -9,6 +9,7 @@ use lib.Dec.{eqb}
 use lib.ListN.{drop, length-drop}
 use lib.Seq.{length-take-le, take-all}
 use Rattle.model.specs.Lists.{all}
+use Rattle.model.specs.Serial.{mostBytes}
 use Rattle.store.proofs.Rows.{and-rest, and-fails}
 use Rattle.store.proofs.SerialLaws.{valid-parts, short-invalid, long-invalid}
 use Rattle.store.proofs.serial.valid_serial.Statement.{statement}
@@ -34,7 +35,7 @@ returns-4 c =
     let a = c .before .before .before .before .before .before .before .before .args in
     let b = c .before .before .before .before .all-allowed in
     let e = sym (b .ensures) ∙ not-false (b .result) (c .before .before .before .if3 .left) in
-    let z = take-all (16 - a .len) (drop (a .len) (a .t1)) (omega (arith, length-drop (a .len) (a .t1))) in
+    let z = take-all (mostBytes - a .len) (drop (a .len) (a .t1)) (omega (arith, length-drop (a .len) (a .t1))) in
     c .all-zero .ensures ∙ ap (all (eqb 0)) z ∙ sym (valid-parts (a .t1) (a .len) (omega arith) (omega arith) (omega arith) ∙ and-rest _ e)
 
 pub valid-serial-spec : {M : Type 1} → statement M

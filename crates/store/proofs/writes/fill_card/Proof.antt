@@ -4,10 +4,11 @@ use Prim.Native.Nat.{ℕ, _+_, _-_, _*_, _≤_}
 use native.Mathlib.Omega.{arith}
 use borrow.Author.Needs.{needs}
 use lib.ListN.{length}
+use Rattle.model.specs.Layout.{leastWidth}
 use Rattle.store.proofs.writes.fill_card.Statement.{statement}
 use Rattle.store.proofs.writes.fill_card.Tie as tie
 
-inside : (c : tie.Start) → c .args .width * (c .args .i - 1) + 9 ≤ length (c .args .cards .now)
+inside : (c : tie.Start) → c .args .width * (c .args .i - 1) + leastWidth ≤ length (c .args .cards .now)
 inside c =
     let a = c .args in
     let e : a .width * (a .i - 1 + 1) ≡ a .width * a .i = ap (λ (m : ℕ). a .width * m) (let d : a .i - 1 + 1 ≡ a .i = omega (arith, c .pre .0) in d) in

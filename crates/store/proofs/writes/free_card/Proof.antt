@@ -4,15 +4,17 @@ use mathlib.Core.List.{List}
 use Prim.Native.Nat.{ℕ}
 use borrow.Author.Needs.{needs}
 use lib.ListN.{set}
-use Rattle.model.specs.Layout.{cardWidth}
+use Rattle.model.specs.Layout.{freeAt}
+use Rattle.model.proofs.Shapes.{free-fills}
+use Rattle.store.specs.Cells.{shapeIn}
 use Rattle.store.proofs.writes.free_card.Statement.{statement}
 use Rattle.store.proofs.writes.free_card.Tie as tie
 
 returns : tie.Need-returns
-unfolding cardWidth
 returns c =
     let filled = c .before .before .before .before .before .before in
-    c .before .before .put-word .ensures ∙ ap (λ (l : List ℕ). set l 7 (filled .before .before .before .args .i)) (filled .put-card-cell .ensures)
+    let a = filled .before .before .before .args in
+    rw (free-fills (shapeIn (a .h))) (c .before .before .put-word .ensures ∙ ap (λ (l : List ℕ). set l freeAt (a .i)) (filled .put-card-cell .ensures))
 
 pub free-card-spec : {M : Type 1} → statement M
 free-card-spec = tie.close (tie.spec (λ c κs. search needs) (λ c κs. search needs) (λ c. search needs) returns)

@@ -13,6 +13,6 @@ put-card-cell-spec =
     (λ c. omega (arith, c .before .pre .0 .room))
     (λ c. omega (arith, c .before .pre .0 .room))
     (λ c. omega (arith, c .before .pre .0 .room))
-    (λ c κs. let p = c .before .before .pre in (p .1, card-room (p .0) _ (p .2), p .0 .room .nine))
+    (λ c κs. let p = c .before .before .pre in (p .1, card-room (p .0) _ (p .2), p .0 .room .wide))
     (λ c. search needs)
     (λ c. let s = c .before .before .before .before .before in card-cell-lent (s .pre .0) _ _ (s .pre .1) (s .args .words) (s .pre .2) (omega (arith, s .pre .0 .room)) (c .before .before .fill-card .ensures)))
