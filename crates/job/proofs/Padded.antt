@@ -4,6 +4,7 @@ use mathlib.Core.Path.{_≡_, refl, sym, ap}
 use mathlib.Core.List.{List, [], _∷_, _++_}
 use native.Mathlib.Omega.{arith}
 use lib.ListN.{length, take, drop, replicate}
+use Rattle.model.specs.Serial.{mostBytes}
 use Rattle.model.specs.Job.{padded}
 
 -- the first m bytes of a field with zeros behind it
@@ -18,6 +19,6 @@ behind (x ∷ f) zero m k h e = let z : m ≡ 0 = omega arith in rw z
 behind (x ∷ f) (suc n) zero k h e = absurd (omega arith)
 behind (x ∷ f) (suc n) (suc m) k h e = ap (λ (l : List ℕ). x ∷ l) (behind f n m k (omega arith) (omega arith))
 
-pub padded-is : (f : List ℕ) (n : ℕ) → n ≡ min (length f) 16 → take n f ++ drop n (replicate 16 0) ≡ padded f
+pub padded-is : (f : List ℕ) (n : ℕ) → n ≡ min (length f) mostBytes → take n f ++ drop n (replicate mostBytes 0) ≡ padded f
 unfolding padded
-padded-is f n e = behind f n 16 16 (omega arith) e
+padded-is f n e = behind f n mostBytes mostBytes (omega arith) e

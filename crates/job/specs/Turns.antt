@@ -2,7 +2,7 @@
 use mathlib.Core.Path.{_≡_}
 use mathlib.Core.Bool.{Bool, true, false, cond}
 use mathlib.Core.List.{List, []}
-use Prim.Native.Nat.{ℕ, _+_, _≤_}
+use Prim.Native.Nat.{ℕ, _+_, _*_, _≤_}
 use lib.Dec.{ltb, eqb}
 use lib.ListN.{length}
 use lib.Seq.{sets}
@@ -53,9 +53,9 @@ turnOf w x out at t =
     (record { fits = false; words = w; out = out; end = at; tally = t })
     (record { fits = true; words = encode (step .store); out = sets out at answer; end = at + length answer; tally = counted t s l step })
 
--- the longest answer: four numbers of ten digits, three spaces, LF, and 22 bytes for each of 2,048 faults
+-- the longest answer: four numbers of ten digits, three spaces, LF, and 22 bytes for each fault
 abbrev pub longest : ℕ
-longest = 45100
+longest = 44 + 22 * mostFaults
 
 -- a turn of the program, held to it
 pub record Turns (t : Turn) (at : ℕ) (r : Turned) (words out : List ℕ) : Type 0 where

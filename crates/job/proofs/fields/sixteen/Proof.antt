@@ -5,6 +5,7 @@ use Prim.Native.Nat.{_-_, _≤_}
 use native.Mathlib.Omega.{arith}
 use denote.Ref.{now}
 use lib.ListN.{take, drop, replicate}
+use Rattle.model.specs.Serial.{mostBytes}
 use Rattle.model.proofs.Lists.{copy-more}
 use Rattle.job.proofs.Padded.{padded-is}
 use Rattle.job.proofs.fields.sixteen.Statement.{statement}
@@ -26,7 +27,7 @@ loop-again : tie.Need-loop-again Inv-loop μ-loop
 loop-again c =
     let j = c .before .before .loop in
     let f = now (c .before .before .before .before .before .args .field) in
-    (omega arith, rw (j .inv .1) (copy-more f (replicate 16 0) (j .i) (omega arith) (omega arith)))
+    (omega arith, rw (j .inv .1) (copy-more f (replicate mostBytes 0) (j .i) (omega arith) (omega arith)))
 
 returns : tie.Need-returns Inv-loop μ-loop
 returns c =
