@@ -58,11 +58,15 @@ put-answer-requires c κs =
       rw (← (a .answer-len .ensures .is)) (c .before .before .before .before .before .before .before .before .before .before .if1 .left),
     )
 
+-- the change, before the tally is counted
+abbrev changed : tie.After-counted → tie.After-made
+changed c = c .before .before .before .before .before .before .before .before .before .before .before
+
 returns-2 : tie.Need-returns-2
 returns-2 c =
     let t = c .before .before .before .before in
     let b = t .before .before .before in
-    let m = b .before .before .before .before in
+    let m = changed c in
     let a = chosen m in
     turn-answers _ _ _ (parsed a .parse .ensures) _ (planned a .planned .ensures) _ _ (listed a .listed .ensures) _ _ _ (a .answer-len .ensures) (start a .pre .0)
     (m .before .before .before .before .if1 .left) (t .put-answer .ensures) (m .made .ensures) (m .before .before .buckets .ensures) (b .buckets2 .ensures) (c .counted .ensures)
@@ -85,6 +89,6 @@ turn-spec =
     put-answer-requires
     (λ c κs. search needs)
     (λ c. search needs)
-    (λ c. search needs)
+    (λ c. listed (chosen (changed c)) .listed .kept .1 .1 .1 .0)
     (λ c. search needs)
     returns-2)
