@@ -1,8 +1,8 @@
 -- Laws of a header that the words are sized by (`sized-from`): a word of a cell is there (`card-in`,
 -- `fault-in`) and is the one asked for (`card-is`, `fault-is`). Of the words only their length counts (`sized-same`).
 -- Then laws of the tests on cells, that the functions of `cells` rest on.
-use mathlib.Core.Path.{_≡_, refl, ap, _∙_}
-use mathlib.Core.Bool.{Bool, true, false, cond}
+use mathlib.Core.Path.{_≡_, ap, _∙_}
+use mathlib.Core.Bool.{Bool, true, false}
 use mathlib.Core.List.{List}
 use Prim.Native.Nat.{ℕ, suc, _+_, _-_, _*_, _/_, _≤_, _<_}
 use native.Mathlib.Nat.{mul-le-mul}
@@ -18,7 +18,6 @@ use Rattle.model.proofs.Places.{cellAt-below}
 use Rattle.model.proofs.Shapes.{top-most, entries-some, width-least, width-most, shaped}
 use Rattle.store.specs.declared.cells.Header.{Header}
 use Rattle.store.specs.Cells.{shapeIn, Room, Sized, widthOf, cellWord, sameKey, metFirst, freeFits}
-use Rattle.store.specs.Checker.{reachOf}
 use Rattle.store.proofs.Rows.{testFrom}
 
 -- what a header has in numbers, where the words are so long
@@ -94,12 +93,6 @@ pub width-few : (sh : Shape) (faults : Bool) → widthOf sh faults ≤ mostWidth
 unfolding widthOf
 width-few sh true = omega arith
 width-few sh false = omega (arith, width-most sh)
-
--- the bucket of a chain is below the most
-pub bucket-most : (sh : Shape) (faults : Bool) (j : ℕ) → j < reachOf sh faults → cond faults 0 j ≤ topOf sh
-unfolding reachOf
-bucket-most sh true j h = omega arith
-bucket-most sh false j h = omega arith
 
 -- the search for a card's twin along a chain: what is left from here is what was left from the start
 module _ (sh : Shape) (w : List ℕ) (j i c n : ℕ) (h : n < c) where

@@ -15,7 +15,7 @@ use lib.ListN.{length, take, drop, getD}
 use Rattle.rules.specs.Code.{codeOf}
 use Rattle.rules.specs.Table.{addressOf}
 use Rattle.rules.proofs.Tests.{by-cases, not-both, both, all-of, eq?}
-use Rattle.model.specs.Shape.{Shape, topOf}
+use Rattle.model.specs.Shape.{Shape}
 use Rattle.model.specs.Lists.{all, between}
 use Rattle.model.specs.Serial.{serialOk, validSerial, validFault}
 use Rattle.model.specs.Layout.{maxpAt, pAt, toLength, toSerial, toDay, toCode}
@@ -25,33 +25,27 @@ use Rattle.model.proofs.Lists.{between-is, all-from, from-all}
 use Rattle.model.proofs.Sums.{bit-same, bit-other}
 use Rattle.model.proofs.Serials.{words-back}
 use Rattle.model.proofs.Walks.{times-count}
-use Rattle.model.proofs.Shapes.{entries-some}
+use Rattle.store.specs.declared.cells.Chain.the-variants.{Free, Bucket, History}
 use Rattle.store.specs.Cells.{bytesAt, cellWord, widthOf, sameKey, metFirst, freeFits, faultFits, cardFits, cellFits}
 
 -- free cells
-
-free-fits : (sh : Shape) (w : List ℕ) (faults : Bool) (i : ℕ) → cellFits sh w faults (topOf sh) i ≡ freeFits sh w faults i
-unfolding cellFits
-free-fits sh w faults i = rw (eq-eqb (topOf sh) (topOf sh) refl)
 
 module _ (sh : Shape) (w : List ℕ) (faults : Bool) (i : ℕ) where
   zero-word : ℕ → Bool
   zero-word k = eqb (cellWord sh w faults i k) 0
 
-  pub free-is : cellFits sh w faults (topOf sh) i ≡ true → (k : ℕ) → 1 ≤ k → k < widthOf sh faults → cellWord sh w faults i k ≡ 0
+  pub free-is : cellFits sh w faults Free i ≡ true → (k : ℕ) → 1 ≤ k → k < widthOf sh faults → cellWord sh w faults i k ≡ 0
   unfolding cellFits freeFits zero-word
-  free-is e k a b =
-      let z : freeFits sh w faults i ≡ true = sym (free-fits sh w faults i) ∙ e in
-      eqb-true (cellWord sh w faults i k) 0 (all-from zero-word 1 (widthOf sh faults - 1) z k a (omega arith))
+  free-is e k a b = eqb-true (cellWord sh w faults i k) 0 (all-from zero-word 1 (widthOf sh faults - 1) e k a (omega arith))
 
-  pub is-free : ((k : ℕ) → 1 ≤ k → k < widthOf sh faults → cellWord sh w faults i k ≡ 0) → cellFits sh w faults (topOf sh) i ≡ true
+  pub is-free : ((k : ℕ) → 1 ≤ k → k < widthOf sh faults → cellWord sh w faults i k ≡ 0) → cellFits sh w faults Free i ≡ true
   unfolding cellFits freeFits zero-word
-  is-free z = free-fits sh w faults i ∙ from-all zero-word 1 (widthOf sh faults - 1) (λ k a b. eq-eqb (cellWord sh w faults i k) 0 (z k a (omega arith)))
+  is-free z = from-all zero-word 1 (widthOf sh faults - 1) (λ k a b. eq-eqb (cellWord sh w faults i k) 0 (z k a (omega arith)))
 
 -- a cell of a history
-pub fault-fits : (sh : Shape) (w : List ℕ) (i : ℕ) → cellFits sh w true 0 i ≡ validFault (faultWord sh w i toDay) (faultWord sh w i toCode)
+pub fault-fits : (sh : Shape) (w : List ℕ) (i : ℕ) → cellFits sh w true History i ≡ validFault (faultWord sh w i toDay) (faultWord sh w i toCode)
 unfolding cellFits faultFits
-fault-fits sh w i = rw (ne-eqb 0 (topOf sh) (omega (arith, entries-some sh)))
+fault-fits sh w i = refl
 
 -- a cell of bucket b
 
@@ -62,26 +56,21 @@ pub record CardFits (sh : Shape) (w : List ℕ) (b i : ℕ) : Type 0 where
   pub addressed : addressOf (codeOf (serialIn sh w i)) (getD w maxpAt 0) (getD w pAt 0) ≡ b
   pub first : metFirst (sh .limit) sh w (bucketWord sh w b) i ≡ true
 
-card-fits : (sh : Shape) (w : List ℕ) (b i : ℕ) → b < topOf sh → cellFits sh w false b i ≡ cardFits sh w b i
-unfolding cellFits
-card-fits sh w b i h = rw (ne-eqb b (topOf sh) (omega arith))
-
-pub card-is : (sh : Shape) (w : List ℕ) (b i : ℕ) → b < topOf sh → cellFits sh w false b i ≡ true → CardFits sh w b i
-unfolding cardFits validSerial bytesAt bytesIn serialIn
-card-is sh w b i h e =
+pub card-is : (sh : Shape) (w : List ℕ) (b i : ℕ) → cellFits sh w false (Bucket b) i ≡ true → CardFits sh w b i
+unfolding cellFits cardFits validSerial bytesAt bytesIn serialIn
+card-is sh w b i e =
     let n = cardWord sh w i toLength in
     let a = addressOf (codeOf (serialIn sh w i)) (getD w maxpAt 0) (getD w pAt 0) in
-    let (s, r) = both (validSerial (bytesAt sh w i) n) _ (sym (card-fits sh w b i h) ∙ e) in
+    let (s, r) = both (validSerial (bytesAt sh w i) n) _ e in
     let (at, first) = both (eqb a b) (metFirst (sh .limit) sh w (bucketWord sh w b) i) r in
     let (l, v) = both (eqb (length (take n (bytesIn sh w i))) n) _ s in
     let (ok, zeros) = both (serialOk (take n (bytesIn sh w i))) (all (eqb 0) (drop n (bytesIn sh w i))) v in
     record { long = sym (eqb-true (length (take n (bytesIn sh w i))) n l); valid = ok; padding = zeros; addressed = eqb-true a b at; first = first }
 
-pub is-card : (sh : Shape) (w : List ℕ) (b i : ℕ) → b < topOf sh → CardFits sh w b i → cellFits sh w false b i ≡ true
-unfolding cardFits validSerial bytesAt bytesIn serialIn
-is-card sh w b i h c =
-    card-fits sh w b i h
-    ∙ all-of (all-of (eq-eqb (length (serialIn sh w i)) (cardWord sh w i toLength) (sym (c .long))) (all-of (c .valid) (c .padding)))
+pub is-card : (sh : Shape) (w : List ℕ) (b i : ℕ) → CardFits sh w b i → cellFits sh w false (Bucket b) i ≡ true
+unfolding cellFits cardFits validSerial bytesAt bytesIn serialIn
+is-card sh w b i c =
+    all-of (all-of (eq-eqb (length (serialIn sh w i)) (cardWord sh w i toLength) (sym (c .long))) (all-of (c .valid) (c .padding)))
     (all-of (eq-eqb (addressOf (codeOf (serialIn sh w i)) (getD w maxpAt 0) (getD w pAt 0)) b (c .addressed)) (c .first))
 
 -- the five words of a card

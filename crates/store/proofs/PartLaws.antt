@@ -8,12 +8,13 @@ use Prim.Native.Nat.{ℕ, _+_, _*_, _≤_}
 use native.Mathlib.Omega.{arith}
 use lib.ListN.{length, getD}
 use Rattle.rules.proofs.Tests.{by-cases}
-use Rattle.model.specs.Shape.{Shape, topOf}
+use Rattle.model.specs.Shape.{Shape}
 use Rattle.model.specs.Lists.{from}
 use Rattle.model.specs.Layout.{freeAt, freeFaultsAt}
 use Rattle.model.specs.Layout.{shapeOk}
 use Rattle.model.specs.Calls.{scratchNeed}
 use Rattle.model.proofs.Shapes.{shaped}
+use Rattle.store.specs.declared.cells.Chain.the-variants.{Free}
 use Rattle.store.specs.Cells.{limitOf, cellFits}
 use Rattle.store.specs.Checker.{startOf, nextIn, baseOf, chainCount, chainsOf, freeOf, partOf}
 use Rattle.store.proofs.WalkLaws.{Kept, kept-both, kept-walk, kept-walks}
@@ -26,7 +27,7 @@ marks-fit sh false h = let k = shaped sh h in omega arith
 module _ (sh : Shape) (w : List ℕ) (faults : Bool) (bytes : List ℕ) (marks : baseOf sh faults + limitOf sh faults ≤ 8 * scratchNeed) (scratch : scratchNeed ≤ length bytes) where
   pub kept-free : Kept (baseOf sh faults) (limitOf sh faults) bytes (freeOf sh w faults bytes .bytes)
   unfolding freeOf
-  kept-free = kept-walk (baseOf sh faults) (limitOf sh faults) marks (cellFits sh w faults (topOf sh)) (nextIn sh w faults) bytes (getD w (cond faults freeFaultsAt freeAt) 0) scratch
+  kept-free = kept-walk (baseOf sh faults) (limitOf sh faults) marks (cellFits sh w faults Free) (nextIn sh w faults) bytes (getD w (cond faults freeFaultsAt freeAt) 0) scratch
 
   pub kept-chains : (n : ℕ) → Kept (baseOf sh faults) (limitOf sh faults) bytes (chainsOf sh w faults n bytes .bytes)
   unfolding chainsOf

@@ -12,7 +12,7 @@ use borrow.Author.Tests.{eqb-true, eq-eqb}
 use lib.Dec.{eqb}
 use lib.ListN.{length, getD, length-append}
 use Rattle.rules.proofs.Tests.{both, all-of, eq?, lt?}
-use Rattle.model.specs.Shape.{Shape, topOf}
+use Rattle.model.specs.Shape.{Shape}
 use Rattle.model.specs.Lists.{join, from, total}
 use Rattle.model.specs.Layout.{freeAt, freeFaultsAt}
 use Rattle.model.specs.Layout.{follow, last}
@@ -23,8 +23,9 @@ use Rattle.model.proofs.Sums.{bit, count, total-append}
 use Rattle.model.proofs.Walks.{times-count, every-in, in-every, in-one, one-in, marked-once}
 use Rattle.store.specs.Marks.{markAt}
 use Rattle.store.specs.Walk.{numberOf, Out, Start, Tot}
+use Rattle.store.specs.declared.cells.Chain.the-variants.{Free}
 use Rattle.store.specs.Cells.{limitOf, cellFits}
-use Rattle.store.specs.Checker.{firstOf, endFits, startOf, nextIn, baseOf, chainsOf, freeOf, chainCount, heldWord, partOf}
+use Rattle.store.specs.Checker.{firstOf, endFits, chainOf, startOf, nextIn, baseOf, chainsOf, freeOf, chainCount, heldWord, partOf}
 use Rattle.store.proofs.Walking.{Runs, Apart, Seen, Met, Right, read, accepted, accepts, walks-accepted, walks-accept}
 use Rattle.store.proofs.PartLaws.{kept-free}
 use Rattle.store.proofs.OnceLaws.{once-length}
@@ -46,14 +47,14 @@ pub record Part (sh : Shape) (w : List ℕ) (faults : Bool) : Type 0 where
   pub freeChain : Leads (nextIn sh w faults) (freeHead w faults) (freeIn sh w faults)
   pub chain : (j : ℕ) → j < chainCount sh w faults → Leads (nextIn sh w faults) (firstOf sh w faults j) (chainIn sh w faults j)
   pub cells : ExactlyOnce (limitOf sh faults) (freeIn sh w faults ++ chainsIn sh w faults)
-  pub freeGood : (i : ℕ) → In i (freeIn sh w faults) → cellFits sh w faults (topOf sh) i ≡ true
-  pub good : (j i : ℕ) → j < chainCount sh w faults → In i (chainIn sh w faults j) → cellFits sh w faults (cond faults 0 j) i ≡ true
+  pub freeGood : (i : ℕ) → In i (freeIn sh w faults) → cellFits sh w faults Free i ≡ true
+  pub good : (j i : ℕ) → j < chainCount sh w faults → In i (chainIn sh w faults j) → cellFits sh w faults (chainOf faults j) i ≡ true
   pub ends : (j : ℕ) → j < chainCount sh w faults → endFits sh w faults j (length (chainIn sh w faults j)) (last (chainIn sh w faults j)) ≡ true
   pub held : length (chainsIn sh w faults) ≡ heldWord w faults
 
 -- the same as the walks find it
 record Found (sh : Shape) (w : List ℕ) (faults : Bool) : Type 0 where
-  free : Runs (cellFits sh w faults (topOf sh)) (nextIn sh w faults) (limitOf sh faults) (freeHead w faults) (freeIn sh w faults)
+  free : Runs (cellFits sh w faults Free) (nextIn sh w faults) (limitOf sh faults) (freeHead w faults) (freeIn sh w faults)
   chains : (j : ℕ) → j < chainCount sh w faults → Right (nextIn sh w faults) (limitOf sh faults) (startOf sh w faults j)
   apart : Apart (limitOf sh faults) (chainsIn sh w faults) (freeIn sh w faults)
   held : length (chainsIn sh w faults) ≡ heldWord w faults
@@ -74,8 +75,8 @@ module _ (sh : Shape) (w : List ℕ) (faults : Bool) where
         freeChain = f .free .leads;
         chain = λ j h. f .chains j h .runs .leads;
         cells = marked-once (limitOf sh faults) (freeIn sh w faults ++ chainsIn sh w faults) inside once (length-append (freeIn sh w faults) (chainsIn sh w faults) ∙ f .full);
-        freeGood = every-in (λ i. cellFits sh w faults (topOf sh) i ≡ true) (freeIn sh w faults) (f .free .fine);
-        good = λ j i h. every-in (λ i. cellFits sh w faults (cond faults 0 j) i ≡ true) (chainIn sh w faults j) (f .chains j h .runs .fine) i;
+        freeGood = every-in (λ i. cellFits sh w faults Free i ≡ true) (freeIn sh w faults) (f .free .fine);
+        good = λ j i h. every-in (λ i. cellFits sh w faults (chainOf faults j) i ≡ true) (chainIn sh w faults j) (f .chains j h .runs .fine) i;
         ends = λ j h. f .chains j h .fits;
         held = f .held;
       }
@@ -154,9 +155,9 @@ module _ (sh : Shape) (w : List ℕ) (faults : Bool) (bytes : List ℕ) (marks :
   free-long : scratchNeed ≤ length (free .bytes)
   free-long = omega (arith, kept-free sh w faults bytes marks long)
 
-  met : free .ok ≡ true → Met next base limit marks (cellFits sh w faults (topOf sh)) (freeHead w faults) 0 0 (freeIn sh w faults) [] free
+  met : free .ok ≡ true → Met next base limit marks (cellFits sh w faults Free) (freeHead w faults) 0 0 (freeIn sh w faults) [] free
   unfolding freeOf
-  met ok = accepted next base limit marks (cellFits sh w faults (topOf sh)) bytes (freeHead w faults) [] long fresh ok
+  met ok = accepted next base limit marks (cellFits sh w faults Free) bytes (freeHead w faults) [] long fresh ok
 
   behind : free .ok ≡ true → Seen base limit (free .bytes) (freeIn sh w faults)
   behind ok = subst (Seen base limit (free .bytes)) (append-nil (freeIn sh w faults)) (met ok .left)
@@ -187,7 +188,7 @@ module _ (sh : Shape) (w : List ℕ) (faults : Bool) (bytes : List ℕ) (marks :
 
   free-ok : Found sh w faults → free .ok ≡ true
   unfolding freeOf
-  free-ok p = accepts next base limit marks (cellFits sh w faults (topOf sh)) bytes (freeHead w faults) [] long fresh (p .free) (λ x a b. omega (arith, p .apart x a b))
+  free-ok p = accepts next base limit marks (cellFits sh w faults Free) bytes (freeHead w faults) [] long fresh (p .free) (λ x a b. omega (arith, p .apart x a b))
 
   rest-ok : Found sh w faults → rest .ok ≡ true
   unfolding chainsOf

@@ -16,6 +16,7 @@ use Rattle.rules.proofs.Tests.{both}
 use Rattle.rules.proofs.States.{state-of}
 use Rattle.model.specs.Lists.{from}
 use Rattle.model.specs.Calls.{scratchNeed}
+use Rattle.store.specs.declared.cells.Chain.the-variants.{Free}
 use Rattle.store.specs.Cells.{shapeIn, Read, limitOf, cellFits}
 use Rattle.store.specs.Walk.{walkOf, walksFrom, Did, DidAll}
 use Rattle.store.specs.Checker.{limitsFit, offsetsFit, frontFits, nextIn, startOf, baseOf, reachOf, chainCount, chainsOf, freeOf, heldWord, partOf, DidPart, checked, DidCheck}
@@ -51,10 +52,10 @@ module _ {w : List ℕ} {h : Header} (r : Read w h) where
   marks-reach false = let s = r .sized .room in omega arith
 
   module _ (faults : Bool) {base limit : ℕ} (b : base ≡ cond faults (h .cards) 0) (l : limit ≡ cond faults (h .faults) (h .cards)) where
-    pub did-free : (bytes : List ℕ) {first n last : ℕ} {ok : Bool} {left : List ℕ} → first ≡ getD w (cond faults freeFaultsAt freeAt) 0
-        → Did (walkOf (cellFits sh w faults (h .top)) (nextIn sh w faults) base limit bytes first) ok n last left → Did (freeOf sh w faults bytes) ok n last left
+    pub did-free : (bytes : List ℕ) {n last : ℕ} {ok : Bool} {left : List ℕ}
+        → Did (walkOf (cellFits sh w faults Free) (nextIn sh w faults) base limit bytes (getD w (cond faults freeFaultsAt freeAt) 0)) ok n last left → Did (freeOf sh w faults bytes) ok n last left
     unfolding freeOf
-    did-free bytes e d = rw (← (r .sized .top), ← (limit-is faults), ← (base-is faults), ← l, ← b, ← e) d
+    did-free bytes d = rw (← (limit-is faults), ← (base-is faults), ← l, ← b) d
 
     pub did-chains : (bytes : List ℕ) {n total : ℕ} {ok : Bool} {left : List ℕ} → n ≡ cond faults (h .cards) (h .maxp + h .p)
         → DidAll (walksFrom (nextIn sh w faults) base limit (map (startOf sh w faults) (from 0 n)) bytes 0) ok total left → DidAll (chainsOf sh w faults (chainCount sh w faults) bytes) ok total left

@@ -7,10 +7,9 @@ use Prim.Native.Nat.{ℕ, _+_, _-_, _≤_, _<_}
 use native.Mathlib.Omega.{arith}
 use borrow.Author.Tests.{eqb-true}
 use lib.Dec.{eqb, lit<}
-use lib.ListN.{length, getD}
+use lib.ListN.{length}
 use Rattle.rules.proofs.Tests.{both}
-use Rattle.rules.proofs.States.{state-of}
-use Rattle.model.specs.Shape.{Shape, topOf}
+use Rattle.model.specs.Shape.{Shape}
 use Rattle.model.specs.Lists.{total}
 use Rattle.model.specs.Serial.{validFault}
 use Rattle.model.specs.Layout.{maxpAt, pAt, toFirst, toLast, toCount, toDay, toCode}
@@ -33,7 +32,7 @@ module _ (sh : Shape) (w : List ℕ) (f : Front sh w) (c : Part sh w false) (h :
 
   card : (b i : ℕ) → b < bucketsIn w → In i (bucketCells sh w b) → CardFits sh w b i
   unfolding chainCount limitOf cellWord firstOf bucketCells
-  card b i l p = card-is sh w b i (omega (arith, state-of (topOf sh) (getD w maxpAt 0) (getD w pAt 0) (f .state) .room)) (c .good b i l p)
+  card b i l p = card-is sh w b i (c .good b i l p)
 
   cells : ExactlyOnce (sh .limit) (freeCells sh w ++ heldCells sh w)
   unfolding chainCount limitOf cellWord firstOf bucketCells heldCells freeCells

@@ -9,10 +9,9 @@ use Prim.Native.Nat.{ℕ, _+_, _≤_, _<_}
 use native.Mathlib.Omega.{arith}
 use borrow.Author.Tests.{eq-eqb}
 use lib.Dec.{eqb, lit<}
-use lib.ListN.{length, getD}
+use lib.ListN.{length}
 use Rattle.rules.proofs.Tests.{all-of, lt?}
-use Rattle.rules.proofs.States.{state-of}
-use Rattle.model.specs.Shape.{Shape, topOf}
+use Rattle.model.specs.Shape.{Shape}
 use Rattle.model.specs.Lists.{total}
 use Rattle.model.specs.Serial.{validFault}
 use Rattle.model.specs.Layout.{maxpAt, pAt, toFirst, toLast, toCount, toDay, toCode}
@@ -61,7 +60,7 @@ module _ (sh : Shape) (w : List ℕ) (s : SoundAs sh w) where
         chain = s .bucketChain;
         cells = s .cardCells;
         freeGood = λ i p. is-free sh w false i (λ k. s .freeZero i k p);
-        good = λ b i l p. is-card sh w b i (omega (arith, state-of (topOf sh) (getD w maxpAt 0) (getD w pAt 0) (s .state) .room)) (first b i l p);
+        good = λ b i l p. is-card sh w b i (first b i l p);
         ends = λ j l. refl;
         held = sym (s .cardsHeld);
       }

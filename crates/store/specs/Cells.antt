@@ -15,6 +15,8 @@ use Rattle.model.specs.Layout.{farthest, leastEntries, leastWidth, mostCards, m
 use Rattle.model.specs.Calls.{Terms}
 use Rattle.store.specs.declared.front.Shape as told
 use Rattle.store.specs.declared.cells.Header.{Header}
+use Rattle.store.specs.declared.cells.Chain.{Chain}
+use Rattle.store.specs.declared.cells.Chain.the-variants.{Free, Bucket, History}
 
 -- the shape that the code holds by itself, and the one in a header
 abbrev pub shapeBy : told.Shape → Shape
@@ -113,6 +115,14 @@ cardFits sh w b i =
     && (eqb (addressOf (codeOf (take (cardWord sh w i toLength) (bytesAt sh w i))) (getD w maxpAt 0) (getD w pAt 0)) b
     && metFirst (sh .limit) sh w (getD w (segmentsAt sh + b) 0) i)
 
--- b is a bucket of cards, anything below the most for a history, and the most for a free chain
-unfoldable pub cellFits : Shape → List ℕ → Bool → ℕ → ℕ → Bool
-cellFits sh w faults b i = cond (eqb b (topOf sh)) (freeFits sh w faults i) (cond faults (faultFits sh w i) (cardFits sh w b i))
+-- the chain is one of its part: the free chain of either, a bucket of the cards, a history of the faults
+abbrev pub Suits : Header → Bool → Chain → Type 0
+Suits h faults Free = Unit {0}
+Suits h faults (Bucket b) = (faults ≡ false) × (b < h .top)
+Suits h faults History = faults ≡ true
+
+-- and by the chain that it stands in
+unfoldable pub cellFits : Shape → List ℕ → Bool → Chain → ℕ → Bool
+cellFits sh w faults Free i = freeFits sh w faults i
+cellFits sh w faults (Bucket b) i = cardFits sh w b i
+cellFits sh w faults History i = faultFits sh w i

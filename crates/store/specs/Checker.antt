@@ -13,6 +13,8 @@ use Rattle.model.specs.Layout.{directoryAt, segmentsAt, cardsAt, faultsAt, leng
 use Rattle.model.specs.Calls.{scratchNeed}
 use Rattle.store.specs.Cells.{shapeIn, Read, cellWord, limitOf, cellFits}
 use Rattle.store.specs.declared.cells.Header.{Header}
+use Rattle.store.specs.declared.cells.Chain.{Chain}
+use Rattle.store.specs.declared.cells.Chain.the-variants.{Free, Bucket, History}
 use Rattle.store.specs.Walk.{Out, Start, Tot, walkOf, walksFrom}
 
 -- the header's words are there, the shape that they tell is one, and the words are as long as it asks
@@ -63,8 +65,11 @@ firstOf sh w faults j = cond faults (cardWord sh w (j + 1) toFirst) (getD w (seg
 unfoldable pub endFits : Shape → List ℕ → Bool → ℕ → ℕ → ℕ → Bool
 endFits sh w faults j count last = cond faults (eqb count (cardWord sh w (j + 1) toCount) && eqb last (cardWord sh w (j + 1) toLast)) true
 
+abbrev pub chainOf : Bool → ℕ → Chain
+chainOf faults j = cond faults History (Bucket j)
+
 abbrev pub startOf : Shape → List ℕ → Bool → ℕ → Start
-startOf sh w faults j = record { first = firstOf sh w faults j; good = cellFits sh w faults (cond faults 0 j); fits = endFits sh w faults j }
+startOf sh w faults j = record { first = firstOf sh w faults j; good = cellFits sh w faults (chainOf faults j); fits = endFits sh w faults j }
 
 abbrev pub nextIn : Shape → List ℕ → Bool → ℕ → ℕ
 nextIn sh w faults i = cellWord sh w faults i toNext
@@ -77,13 +82,12 @@ baseOf sh faults = cond faults (sh .limit) 0
 unfoldable pub reachOf : Shape → Bool → ℕ
 reachOf sh faults = cond faults (sh .limit) (topOf sh)
 
--- what a walk asks: the header is read, each cell has a mark of its own within the scratch, and b is a bucket or a free chain
-pub record Asks (w bytes : List ℕ) (h : Header) (faults : Bool) (base limit b : ℕ) : Type 0 where
+-- what a walk asks: the header is read, and each cell has a mark of its own within the scratch
+pub record Asks (w bytes : List ℕ) (h : Header) (faults : Bool) (base limit : ℕ) : Type 0 where
   pub read : Read w h
   pub cells : limit ≡ limitOf (shapeIn h) faults
   pub marks : base + limit ≤ 8 * scratchNeed
   pub scratch : scratchNeed ≤ length bytes
-  pub bucket : b ≤ h .top
 
 -- the walks of the first n such chains
 unfoldable pub chainsOf : Shape → List ℕ → Bool → ℕ → List ℕ → Tot
@@ -91,7 +95,7 @@ chainsOf sh w faults n bytes = walksFrom (nextIn sh w faults) (baseOf sh faults)
 
 -- the walk of the free chain
 unfoldable pub freeOf : Shape → List ℕ → Bool → List ℕ → Out
-freeOf sh w faults bytes = walkOf (cellFits sh w faults (topOf sh)) (nextIn sh w faults) (baseOf sh faults) (limitOf sh faults) bytes (getD w (cond faults freeFaultsAt freeAt) 0)
+freeOf sh w faults bytes = walkOf (cellFits sh w faults Free) (nextIn sh w faults) (baseOf sh faults) (limitOf sh faults) bytes (getD w (cond faults freeFaultsAt freeAt) 0)
 
 -- how many chains there are, and the word that says how many cells stand in them
 unfoldable pub chainCount : Shape → List ℕ → Bool → ℕ

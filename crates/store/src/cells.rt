@@ -4,7 +4,7 @@ ghost use Prim.Native.Nat.{_≤_, _<_};
 ghost use lib.Dec.{eqb};
 ghost use lib.ListN.{length, getD};
 ghost use Rattle.model.specs.Layout.{cardWidth, faultWidth, cardWord, faultWord};
-ghost use Rattle.store.specs.Cells.{shapeIn, Sized, Read, limitOf, widthOf, cellWord, sameKey, metFirst, bytesAt, freeFits, faultFits, cardFits, cellFits};
+ghost use Rattle.store.specs.Cells.{shapeIn, Sized, Read, limitOf, widthOf, cellWord, sameKey, metFirst, bytesAt, freeFits, faultFits, cardFits, Suits, cellFits};
 use crate::layout;
 use crate::serial;
 
@@ -23,6 +23,13 @@ pub struct Header {
     pub behind: usize,
     pub maxp: u32,
     pub p: u32,
+}
+
+// Which chain a cell stands in: the free one of its part, that of a bucket, or a history.
+pub enum Chain {
+    Free,
+    Bucket(u32),
+    History,
 }
 
 pub fn word(w: &[u32], at: usize) -> u32
@@ -193,16 +200,14 @@ fn card_fits(w: &[u32], h: Header, b: u32, i: u32) -> bool
     met_first(w, h, word(w, h.segments + b as usize), i)
 }
 
-// What cell i has to be: free where b is the most buckets, else a fault of a history or a card of bucket b.
-pub fn cell_fits(w: &[u32], h: Header, faults: bool, b: u32, i: u32) -> bool
-    requires { ⌜ Read (now w) h × (b ≤ h .top) × (1 ≤ i) × (i ≤ limitOf (shapeIn h) faults) ⌝ }
-    ensures { λ r. ⌜ r ≡ cellFits (shapeIn h) (now (w .entry)) faults b i ⌝ }
+// What cell i has to be, by the chain that it stands in.
+pub fn cell_fits(w: &[u32], h: Header, faults: bool, chain: Chain, i: u32) -> bool
+    requires { ⌜ Read (now w) h × Suits h faults chain × (1 ≤ i) × (i ≤ limitOf (shapeIn h) faults) ⌝ }
+    ensures { λ r. ⌜ r ≡ cellFits (shapeIn h) (now (w .entry)) faults chain i ⌝ }
 {
-    if b == h.top {
-        return free_fits(w, h, faults, i);
+    match chain {
+        Chain::Free => free_fits(w, h, faults, i),
+        Chain::Bucket(b) => card_fits(w, h, b, i),
+        Chain::History => fault_fits(w, h, i),
     }
-    if faults {
-        return fault_fits(w, h, i);
-    }
-    card_fits(w, h, b, i)
 }

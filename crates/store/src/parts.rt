@@ -5,13 +5,16 @@ ghost use Prim.Native.Nat.{_+_, _≤_};
 ghost use lib.ListN.{length, getD};
 ghost use Rattle.model.specs.Layout.{directoryAt, freeAt, freeFaultsAt};
 ghost use Rattle.model.specs.Calls.{scratchNeed};
-ghost use Rattle.store.specs.Cells.{shapeIn, Read};
-ghost use Rattle.store.specs.Checker.{heldWord, partOf, DidPart, DidCheck};
+ghost use Rattle.store.specs.Cells.{shapeIn, Read, cellFits};
+ghost use Rattle.store.specs.Walk.{walkOf, Did};
+ghost use Rattle.store.specs.Checker.{Asks, nextIn, heldWord, partOf, DidPart, DidCheck};
 use crate::cells;
+use crate::cells::Chain;
 use crate::cells::Header;
 use crate::front;
 use crate::layout;
 use crate::walks;
+use crate::walks::Walked;
 
 // How many cells a part has, the number that marks its first, and how many chains it has beside the free one.
 fn limit_of(h: Header, faults: bool) -> u32
@@ -57,6 +60,22 @@ fn held_word(w: &[u32], faults: bool) -> u32
     }
 }
 
+// The walk of the free chain.
+fn free_chain(
+    w: &[u32],
+    scratch: &mut [u8],
+    h: Header,
+    faults: bool,
+    base: usize,
+    limit: u32,
+) -> Walked
+    requires { ⌜ Asks (now w) (now scratch) h faults base limit ⌝ }
+    ensures { λ r. ⌜ Did (walkOf (cellFits (shapeIn h) (now (w .entry)) faults Chain.Free) (nextIn (shapeIn h) (now (w .entry)) faults) base limit (now (scratch .entry)) (getD (now (w .entry)) (cond faults freeFaultsAt freeAt) 0)) (r .ok) (r .count) (r .last) (now (scratch .exit)) ⌝ }
+{
+    let first = free_word(w, faults);
+    walks::walk(w, scratch, h, faults, Chain::Free, base, limit, first)
+}
+
 // All cells of a part stand in a chain, once, and as many as the header says are held.
 pub fn part_fits(w: &[u32], scratch: &mut [u8], h: Header, faults: bool) -> bool
     requires { ⌜ Read (now w) h × (h .maxp + h .p ≤ h .top) × (scratchNeed ≤ length (now scratch)) ⌝ }
@@ -64,8 +83,7 @@ pub fn part_fits(w: &[u32], scratch: &mut [u8], h: Header, faults: bool) -> bool
 {
     let limit = limit_of(h, faults);
     let base = base_of(h, faults);
-    let first = free_word(w, faults);
-    let free = walks::walk(w, scratch, h, faults, h.top, base, limit, first);
+    let free = free_chain(w, scratch, h, faults, base, limit);
     if !free.ok {
         return false;
     }

@@ -1,13 +1,14 @@
 // Walks of chains over marks: each cell is within its limit, stands in no chain walked before, and is what its chain asks.
 ghost use mathlib.Core.Path.{_≡_};
-ghost use mathlib.Core.Bool.{cond, _&&_};
+ghost use mathlib.Core.Bool.{_&&_};
 ghost use mathlib.Core.List.{map};
 ghost use Prim.Native.Nat.{_≤_, _<_};
 ghost use Rattle.model.specs.Lists.{from};
-ghost use Rattle.store.specs.Cells.{shapeIn, Sized, cellFits};
-ghost use Rattle.store.specs.Walk.{mayCome, walkOf, walksFrom, Did, DidAll};
+ghost use Rattle.store.specs.Cells.{shapeIn, Sized, Suits, cellFits};
+ghost use Rattle.store.specs.Walk.{mayCome, walkOf, walkOn, walksFrom, Did, DidAll};
 ghost use Rattle.store.specs.Checker.{Asks, nextIn, firstOf, endFits, startOf, reachOf};
 use crate::cells;
+use crate::cells::Chain;
 use crate::cells::Header;
 use crate::layout;
 use crate::marks;
@@ -31,13 +32,13 @@ fn may_come(
     scratch: &[u8],
     h: Header,
     faults: bool,
-    b: u32,
+    chain: Chain,
     base: usize,
     limit: u32,
     i: u32,
 ) -> bool
-    requires { ⌜ Asks (now w) (now scratch) h faults base limit b × (1 ≤ i) ⌝ }
-    ensures { λ r. ⌜ r ≡ mayCome (cellFits (shapeIn h) (now (w .entry)) faults b) (now (scratch .entry)) base limit i ⌝ }
+    requires { ⌜ Asks (now w) (now scratch) h faults base limit × Suits h faults chain × (1 ≤ i) ⌝ }
+    ensures { λ r. ⌜ r ≡ mayCome (cellFits (shapeIn h) (now (w .entry)) faults chain) (now (scratch .entry)) base limit i ⌝ }
 {
     if limit < i {
         return false;
@@ -45,7 +46,7 @@ fn may_come(
     if marks::is_marked(scratch, base + (i - 1) as usize) {
         return false;
     }
-    cells::cell_fits(w, h, faults, b, i)
+    cells::cell_fits(w, h, faults, chain, i)
 }
 
 // Follows a chain from `first` to its end, and marks each cell i as number base + i - 1.
@@ -54,19 +55,19 @@ pub fn walk(
     scratch: &mut [u8],
     h: Header,
     faults: bool,
-    b: u32,
+    chain: Chain,
     base: usize,
     limit: u32,
     first: u32,
 ) -> Walked
-    requires { ⌜ Asks (now w) (now scratch) h faults base limit b ⌝ }
-    ensures { λ r. ⌜ Did (walkOf (cellFits (shapeIn h) (now (w .entry)) faults b) (nextIn (shapeIn h) (now (w .entry)) faults) base limit (now (scratch .entry)) first) (r .ok) (r .count) (r .last) (now (scratch .exit)) ⌝ }
+    requires { ⌜ Asks (now w) (now scratch) h faults base limit × Suits h faults chain ⌝ }
+    ensures { λ r. ⌜ Did (walkOf (cellFits (shapeIn h) (now (w .entry)) faults chain) (nextIn (shapeIn h) (now (w .entry)) faults) base limit (now (scratch .entry)) first) (r .ok) (r .count) (r .last) (now (scratch .exit)) ⌝ }
 {
     let mut i = first;
     let mut n: u32 = 0;
     let mut last: u32 = 0;
     while i != 0 {
-        if !may_come(w, scratch, h, faults, b, base, limit, i) {
+        if !may_come(w, scratch, h, faults, chain, base, limit, i) {
             return Walked {
                 ok: false,
                 count: 0,
@@ -97,11 +98,25 @@ fn first_of(w: &[u32], h: Header, faults: bool, j: u32) -> u32
     }
 }
 
-// What chain j asks of its cells: bucket j, or no bucket.
-fn bucket_of(faults: bool, j: u32) -> u32
-    ensures { λ r. ⌜ r ≡ cond faults 0 j ⌝ }
+// The walk of chain j. Its kind is told by a literal, so that the compiler makes a loop of its own for buckets and for histories.
+fn walk_on(
+    w: &[u32],
+    scratch: &mut [u8],
+    h: Header,
+    faults: bool,
+    base: usize,
+    limit: u32,
+    j: u32,
+) -> Walked
+    requires { ⌜ Asks (now w) (now scratch) h faults base limit × (j < reachOf (shapeIn h) faults) ⌝ }
+    ensures { λ r. ⌜ Did (walkOn (nextIn (shapeIn h) (now (w .entry)) faults) base limit (now (scratch .entry)) (startOf (shapeIn h) (now (w .entry)) faults j)) (r .ok) (r .count) (r .last) (now (scratch .exit)) ⌝ }
 {
-    if faults { 0 } else { j }
+    let first = first_of(w, h, faults, j);
+    if faults {
+        walk(w, scratch, h, faults, Chain::History, base, limit, first)
+    } else {
+        walk(w, scratch, h, faults, Chain::Bucket(j), base, limit, first)
+    }
 }
 
 // The count and the last fault of card j + 1's history are true; a bucket has no such words.
@@ -139,15 +154,13 @@ pub fn chains(
     limit: u32,
     n: u32,
 ) -> Held
-    requires { ⌜ Asks (now w) (now scratch) h faults base limit 0 × (n ≤ reachOf (shapeIn h) faults) ⌝ }
+    requires { ⌜ Asks (now w) (now scratch) h faults base limit × (n ≤ reachOf (shapeIn h) faults) ⌝ }
     ensures { λ r. ⌜ DidAll (walksFrom (nextIn (shapeIn h) (now (w .entry)) faults) base limit (map (startOf (shapeIn h) (now (w .entry)) faults) (from 0 n)) (now (scratch .entry)) 0) (r .ok) (r .total) (now (scratch .exit)) ⌝ }
 {
     let mut j: u32 = 0;
     let mut total: u32 = 0;
     while j < n {
-        let first = first_of(w, h, faults, j);
-        let b = bucket_of(faults, j);
-        let t = walk(w, scratch, h, faults, b, base, limit, first);
+        let t = walk_on(w, scratch, h, faults, base, limit, j);
         if !passes(w, h, faults, j, t) {
             return Held {
                 ok: false,

@@ -1,45 +1,48 @@
--- `cells::cell_fits` meets its contract: a free chain asks one thing of its cells, a history another, a bucket a third.
-use Prim.Native.Nat.{_≤_}
-use native.Mathlib.Omega.{arith}
-use mathlib.Core.Path.{sym, _∙_}
+-- `cells::cell_fits` meets its contract: a free chain asks one thing of its cells, a bucket another, a history a third.
+use mathlib.Core.Path.{subst}
 use borrow.Author.Needs.{needs}
-use borrow.Author.Tests.{eq-eqb, ne-eqb}
-use lib.ListN.{getD}
-use Rattle.store.specs.Cells.{limitOf, cellFits}
+use Rattle.store.specs.Cells.{limitOf, Suits, cellFits}
 use Rattle.store.proofs.cells.cell_fits.Statement.{statement}
 use Rattle.store.proofs.cells.cell_fits.Tie as tie
-
-returns : tie.Need-returns
-unfolding cellFits
-returns c = rw (eq-eqb _ _ (c .before .if1 .taken ∙ c .before .before .before .before .pre .0 .sized .top)) (c .free-fits .ensures)
-
-fault-fits-requires : tie.Need-fault-fits-requires
-unfolding limitOf
-fault-fits-requires c κs =
-    let p = c .before .before .before .before .pre in
-    (p .0 .sized, p .2, rw (c .if2 .taken) at (p .3))
-
-returns-2 : tie.Need-returns-2
-unfolding cellFits
-returns-2 c = rw (ne-eqb _ _ (λ e. c .before .before .if1 .left (e ∙ sym (c .before .before .before .before .before .pre .0 .sized .top))), c .before .if2 .taken) (c .fault-fits .ensures)
 
 card-fits-requires : tie.Need-card-fits-requires
 unfolding limitOf
 card-fits-requires c κs =
+    let a = c .before .before .before .before .args in
     let p = c .before .before .before .before .pre in
-    (p .0, omega (arith, p .1, c .before .if1 .left), p .2, rw (c .if2 .left) at (p .3))
+    let s = subst (Suits (a .h) (a .faults)) (c .before .chain .given .1) (p .1) in
+    (p .0, s .1, p .2, rw (s .0) at (p .3))
+
+fault-fits-requires : tie.Need-fault-fits-requires
+unfolding limitOf
+fault-fits-requires c κs =
+    let a = c .before .before .before .args in
+    let p = c .before .before .before .pre in
+    let s = subst (Suits (a .h) (a .faults)) (c .enum-told2 .given .1) (p .1) in
+    (p .0 .sized, p .2, rw s at (p .3))
+
+returns : tie.Need-returns
+unfolding cellFits
+returns c = rw (c .before .enum-told .given .1) (c .free-fits .ensures)
+
+returns-2 : tie.Need-returns-2
+unfolding cellFits
+returns-2 c = rw (c .before .before .chain .given .1) (c .card-fits .ensures)
 
 returns-3 : tie.Need-returns-3
 unfolding cellFits
-returns-3 c = rw (ne-eqb _ _ (λ e. c .before .before .if1 .left (e ∙ sym (c .before .before .before .before .before .pre .0 .sized .top))), c .before .if2 .left) (c .card-fits .ensures)
+returns-3 c = rw (c .before .enum-told2 .given .1) (c .fault-fits .ensures)
 
 pub cell-fits-spec : {M : Type 1} → statement M
 cell-fits-spec =
     tie.close
     (tie.spec
+    (λ c. search needs)
     (λ c κs. search needs)
-    returns
-    fault-fits-requires
-    returns-2
+    (λ c. search needs)
     card-fits-requires
+    (λ c. search needs)
+    fault-fits-requires
+    returns
+    returns-2
     returns-3)

@@ -13,58 +13,56 @@ use Rattle.store.proofs.PartRuns.{limit-is, chains-reach, marks-reach, 
 use Rattle.store.proofs.parts.part_fits.Statement.{statement}
 use Rattle.store.proofs.parts.part_fits.Tie as tie
 
-walk-requires : tie.Need-walk-requires
-walk-requires c κs =
-    let p = c .before .before .before .before .before .before .pre in
-    let f = c .before .before .before .before .before .before .args .faults in
+free-chain-requires : tie.Need-free-chain-requires
+free-chain-requires c κs =
+    let p = c .before .before .before .before .before .pre in
+    let f = c .before .before .before .before .before .args .faults in
     record {
       read = p .0;
-      cells = c .before .before .before .limit-of .ensures ∙ limit-is (p .0) f;
-      marks = omega (arith, marks-reach (p .0) f, c .before .before .base-of .ensures, c .before .before .before .limit-of .ensures);
+      cells = c .before .before .limit-of .ensures ∙ limit-is (p .0) f;
+      marks = omega (arith, marks-reach (p .0) f, c .before .base-of .ensures, c .before .before .limit-of .ensures);
       scratch = p .2;
-      bucket = omega arith;
     }
 
-free : (c : tie.After-walk) → Did (freeOf (shapeIn (c .before .before .before .before .before .before .before .args .h)) (c .before .before .before .before .before .before .before .args .w .now) (c .before .before .before .before .before .before .before .args .faults) (c .before .before .before .before .before .before .before .args .scratch .now)) (c .walk .result .ok) (c .walk .result .count) (c .walk .result .last) (c .walk .last .1 .0)
-free c = did-free (c .before .before .before .before .before .before .before .pre .0) (c .before .before .before .before .before .before .before .args .faults) (c .before .before .before .base-of .ensures) (c .before .before .before .before .limit-of .ensures) _ (c .before .before .free-word .ensures) (c .walk .ensures)
+free : (c : tie.After-free-chain) → Did (freeOf (shapeIn (c .before .before .before .before .before .before .args .h)) (c .before .before .before .before .before .before .args .w .now) (c .before .before .before .before .before .before .args .faults) (c .before .before .before .before .before .before .args .scratch .now)) (c .free-chain .result .ok) (c .free-chain .result .count) (c .free-chain .result .last) (c .free-chain .last .1 .0)
+free c = did-free (c .before .before .before .before .before .before .pre .0) (c .before .before .before .before .before .before .args .faults) (c .before .before .base-of .ensures) (c .before .before .before .limit-of .ensures) _ (c .free-chain .ensures)
 
 returns : tie.Need-returns
-returns c = part-stops _ _ _ _ (free (c .before .before .before .before)) (not-true (c .before .before .before .before .walk .result .ok) (c .if1 .taken))
+returns c = part-stops _ _ _ _ (free (c .before .before .before .before)) (not-true (c .before .before .before .before .free-chain .result .ok) (c .if1 .taken))
 
 chains-requires : tie.Need-chains-requires
 chains-requires c κs =
-    let p = c .before .before .before .before .before .before .before .before .before .before .before .before .before .pre in
-    let f = c .before .before .before .before .before .before .before .before .before .before .before .before .before .args .faults in (
+    let p = c .before .before .before .before .before .before .before .before .before .before .before .before .pre in
+    let f = c .before .before .before .before .before .before .before .before .before .before .before .before .args .faults in (
       record {
         read = p .0;
-        cells = c .before .before .before .before .before .before .before .before .before .before .limit-of .ensures ∙ limit-is (p .0) f;
-        marks = omega (arith, marks-reach (p .0) f, c .before .before .before .before .before .before .before .before .before .base-of .ensures, c .before .before .before .before .before .before .before .before .before .before .limit-of .ensures);
-        scratch = omega (arith, p .2, c .before .before .before .before .before .before .walk .kept .1 .0);
-        bucket = omega arith;
+        cells = c .before .before .before .before .before .before .before .before .before .limit-of .ensures ∙ limit-is (p .0) f;
+        marks = omega (arith, marks-reach (p .0) f, c .before .before .before .before .before .before .before .before .base-of .ensures, c .before .before .before .before .before .before .before .before .before .limit-of .ensures);
+        scratch = omega (arith, p .2, c .before .before .before .before .before .before .free-chain .kept .1 .0);
       },
       omega (arith, chains-reach (p .0) f (p .1), c .before .chain-count .ensures),
     )
 
-held : (c : tie.After-chains) → DidAll (chainsOf (shapeIn (c .before .before .before .before .before .before .before .before .before .before .before .before .before .before .args .h)) (c .before .before .before .before .before .before .before .before .before .before .before .before .before .before .args .w .now) (c .before .before .before .before .before .before .before .before .before .before .before .before .before .before .args .faults) (chainCount (shapeIn (c .before .before .before .before .before .before .before .before .before .before .before .before .before .before .args .h)) (c .before .before .before .before .before .before .before .before .before .before .before .before .before .before .args .w .now) (c .before .before .before .before .before .before .before .before .before .before .before .before .before .before .args .faults)) (c .before .before .before .before .before .before .before .walk .last .1 .0)) (c .chains .result .ok) (c .chains .result .total) (c .chains .last .1 .0)
-held c = did-chains (c .before .before .before .before .before .before .before .before .before .before .before .before .before .before .pre .0) (c .before .before .before .before .before .before .before .before .before .before .before .before .before .before .args .faults) (c .before .before .before .before .before .before .before .before .before .before .base-of .ensures) (c .before .before .before .before .before .before .before .before .before .before .before .limit-of .ensures) _ (c .before .before .chain-count .ensures) (c .chains .ensures)
+held : (c : tie.After-chains) → DidAll (chainsOf (shapeIn (c .before .before .before .before .before .before .before .before .before .before .before .before .before .args .h)) (c .before .before .before .before .before .before .before .before .before .before .before .before .before .args .w .now) (c .before .before .before .before .before .before .before .before .before .before .before .before .before .args .faults) (chainCount (shapeIn (c .before .before .before .before .before .before .before .before .before .before .before .before .before .args .h)) (c .before .before .before .before .before .before .before .before .before .before .before .before .before .args .w .now) (c .before .before .before .before .before .before .before .before .before .before .before .before .before .args .faults)) (c .before .before .before .before .before .before .before .free-chain .last .1 .0)) (c .chains .result .ok) (c .chains .result .total) (c .chains .last .1 .0)
+held c = did-chains (c .before .before .before .before .before .before .before .before .before .before .before .before .before .pre .0) (c .before .before .before .before .before .before .before .before .before .before .before .before .before .args .faults) (c .before .before .before .before .before .before .before .before .before .base-of .ensures) (c .before .before .before .before .before .before .before .before .before .before .limit-of .ensures) _ (c .before .before .chain-count .ensures) (c .chains .ensures)
 
 returns-2 : tie.Need-returns-2
 returns-2 c =
-    part-runs _ _ _ _ (free (c .before .before .before .before .before .before .before .before .before .before .before)) (not-false (c .before .before .before .before .before .before .before .before .before .before .before .walk .result .ok) (c .before .before .before .before .before .before .before .if1 .left)) (held (c .before .before .before .before)) false
+    part-runs _ _ _ _ (free (c .before .before .before .before .before .before .before .before .before .before .before)) (not-false (c .before .before .before .before .before .before .before .before .before .before .before .free-chain .result .ok) (c .before .before .before .before .before .before .before .if1 .left)) (held (c .before .before .before .before)) false
     (sym (and-fails _ (not-true (c .before .before .before .before .chains .result .ok) (c .if2 .taken))))
 
 held-word-requires : tie.Need-held-word-requires
-held-word-requires c κs = let s = c .before .before .before .before .before .before .before .before .before .before .before .before .before .before .before .before .before .before .pre .0 .sized .room in omega arith
+held-word-requires c κs = let s = c .before .before .before .before .before .before .before .before .before .before .before .before .before .before .before .before .before .pre .0 .sized .room in omega arith
 
 returns-3 : tie.Need-returns-3
 returns-3 c =
-    part-runs _ _ _ _ (free (c .before .before .before .before .before .before .before .before .before .before .before .before .before .before)) (not-false (c .before .before .before .before .before .before .before .before .before .before .before .before .before .before .walk .result .ok) (c .before .before .before .before .before .before .before .before .before .before .if1 .left)) (held (c .before .before .before .before .before .before .before)) false
+    part-runs _ _ _ _ (free (c .before .before .before .before .before .before .before .before .before .before .before .before .before .before)) (not-false (c .before .before .before .before .before .before .before .before .before .before .before .before .before .before .free-chain .result .ok) (c .before .before .before .before .before .before .before .before .before .before .if1 .left)) (held (c .before .before .before .before .before .before .before)) false
     (sym (and-rest _ (not-false (c .before .before .before .before .before .before .before .chains .result .ok) (c .before .before .before .if2 .left)) ∙ and-fails _ (ne-eqb _ _ (λ e. c .if3 .taken (e ∙ sym (c .before .before .held-word .ensures))))))
 
 returns-4 : tie.Need-returns-4
 returns-4 c =
-    part-runs _ _ _ _ (free (c .before .before .before .before .before .before .before .before .before .before .before .before .before .before .before .before)) (not-false (c .before .before .before .before .before .before .before .before .before .before .before .before .before .before .before .before .walk .result .ok) (c .before .before .before .before .before .before .before .before .before .before .before .before .if1 .left)) (held (c .before .before .before .before .before .before .before .before .before)) _
-    (rw (← (limit-is (c .before .before .before .before .before .before .before .before .before .before .before .before .before .before .before .before .before .before .before .before .before .before .before .pre .0) (c .before .before .before .before .before .before .before .before .before .before .before .before .before .before .before .before .before .before .before .before .before .before .before .args .faults)), ← (c .before .before .before .before .before .before .before .before .before .before .before .before .before .before .before .before .before .before .before .before .limit-of .ensures))
+    part-runs _ _ _ _ (free (c .before .before .before .before .before .before .before .before .before .before .before .before .before .before .before .before)) (not-false (c .before .before .before .before .before .before .before .before .before .before .before .before .before .before .before .before .free-chain .result .ok) (c .before .before .before .before .before .before .before .before .before .before .before .before .if1 .left)) (held (c .before .before .before .before .before .before .before .before .before)) _
+    (rw (← (limit-is (c .before .before .before .before .before .before .before .before .before .before .before .before .before .before .before .before .before .before .before .before .before .before .pre .0) (c .before .before .before .before .before .before .before .before .before .before .before .before .before .before .before .before .before .before .before .before .before .before .args .faults)), ← (c .before .before .before .before .before .before .before .before .before .before .before .before .before .before .before .before .before .before .before .limit-of .ensures))
     (sym (and-rest _ (not-false (c .before .before .before .before .before .before .before .before .before .chains .result .ok) (c .before .before .before .before .before .if2 .left)) ∙ and-rest _ (eq-eqb _ _ (c .before .before .if3 .left ∙ c .before .before .before .before .held-word .ensures)))))
 
 pub part-fits-spec : {M : Type 1} → statement M
@@ -73,8 +71,7 @@ part-fits-spec =
     (tie.spec
     (λ c κs. search needs)
     (λ c κs. search needs)
-    (λ c κs. search needs)
-    walk-requires
+    free-chain-requires
     (λ c. search needs)
     returns
     (λ c κs. search needs)

@@ -3,11 +3,9 @@ use mathlib.Core.Path.{sym, _∙_}
 use Prim.Native.Nat.{_-_}
 use native.Mathlib.Omega.{arith}
 use borrow.Author.Tests.{not-true, not-false}
-use Rattle.store.specs.Walk.{Did, walkOn}
 use Rattle.store.specs.Checker.{nextIn, startOf}
 use Rattle.store.specs.Cells.{shapeIn}
 use Rattle.store.proofs.WalkLaws.{Holding, begins, ends, refuses, kept-long, total-le, carries-on}
-use Rattle.store.proofs.CellLaws.{bucket-most}
 use Rattle.store.proofs.walks.chains.Statement.{statement}
 use Rattle.store.proofs.walks.chains.Tie as tie
 
@@ -21,47 +19,38 @@ abbrev μ-loop : tie.MeasureT-loop
 loop-holds : tie.Need-loop-holds Inv-loop μ-loop
 loop-holds c = begins _ _ _ _ _ _
 
-first-of-requires : tie.Need-first-of-requires Inv-loop μ-loop
-first-of-requires c κs = (c .before .before .before .before .pre .0 .read .sized, omega arith)
-
-walk-requires : tie.Need-walk-requires Inv-loop μ-loop
-walk-requires c κs =
-    let p = c .before .before .before .before .before .before .before .pre .0 in
-    let g = c .before .before .before .before .loop .inv in
-    let e = c .before .bucket-of .ensures in
-    record { read = p .read; cells = p .cells; marks = p .marks; scratch = omega arith; bucket = omega (arith, p .read .sized .top, bucket-most (shapeIn (c .before .before .before .before .before .before .before .args .h)) (c .before .before .before .before .before .before .before .args .faults) (c .before .before .before .before .loop .j) (omega arith)) }
+walk-on-requires : tie.Need-walk-on-requires Inv-loop μ-loop
+walk-on-requires c κs =
+    let p = c .before .before .before .before .before .pre .0 in
+    let g = c .before .before .loop .inv in
+    (record { read = p .read; cells = p .cells; marks = p .marks; scratch = omega arith }, omega arith)
 
 passes-requires : tie.Need-passes-requires Inv-loop μ-loop
-passes-requires c κs = (c .before .before .before .before .before .before .before .before .before .before .pre .0 .read .sized, omega arith)
-
--- what the walk of chain j answered
-did : (c : tie.After-walk Inv-loop μ-loop)
-    → Did (walkOn (nextIn (shapeIn (c .before .before .before .before .before .before .before .before .args .h)) (c .before .before .before .before .before .before .before .before .args .w .now) (c .before .before .before .before .before .before .before .before .args .faults)) (c .before .before .before .before .before .before .before .before .args .base) (c .before .before .before .before .before .before .before .before .args .limit) (c .before .before .before .before .before .loop .scratch) (startOf (shapeIn (c .before .before .before .before .before .before .before .before .args .h)) (c .before .before .before .before .before .before .before .before .args .w .now) (c .before .before .before .before .before .before .before .before .args .faults) (c .before .before .before .before .before .loop .j))) (c .walk .result .ok) (c .walk .result .count) (c .walk .result .last) (c .walk .last .1 .0)
-did c = rw (c .before .before .before .first-of .ensures, c .before .before .bucket-of .ensures) at (c .walk .ensures)
+passes-requires c κs = (c .before .before .before .before .before .before .before .before .pre .0 .read .sized, omega arith)
 
 same-length : tie.Need-same-length Inv-loop μ-loop
 same-length c =
-    let p = c .before .before .before .before .before .before .before .before .before .before .before .before .pre .0 in
-    kept-long _ _ _ _ _ _ _ _ _ (c .before .before .before .before .before .before .before .before .before .loop .inv) (c .before .before .before .before .before .before .before .before .loop-test .taken) _ _ _ _ (did (c .before .before .before .before)) (p .marks) (p .scratch)
+    let p = c .before .before .before .before .before .before .before .before .before .before .pre .0 in
+    kept-long _ _ _ _ _ _ _ _ _ (c .before .before .before .before .before .before .before .loop .inv) (c .before .before .before .before .before .before .loop-test .taken) _ _ _ _ (c .before .before .before .before .walk-on .ensures) (p .marks) (p .scratch)
 
 returns : tie.Need-returns Inv-loop μ-loop
 returns c =
-    refuses _ _ _ _ _ _ _ _ _ (c .before .before .before .before .before .before .before .before .before .loop .inv) (c .before .before .before .before .before .before .before .before .loop-test .taken) _ _ _ _ (did (c .before .before .before .before))
+    refuses _ _ _ _ _ _ _ _ _ (c .before .before .before .before .before .before .before .loop .inv) (c .before .before .before .before .before .before .loop-test .taken) _ _ _ _ (c .before .before .before .before .walk-on .ensures)
     (sym (c .before .passes .ensures) ∙ not-true (c .before .passes .result) (c .if1 .taken))
 
 add-total : tie.Need-add-total Inv-loop μ-loop
 add-total c =
-    let p = c .before .before .before .before .before .before .before .before .before .before .before .before .before .pre .0 in
+    let p = c .before .before .before .before .before .before .before .before .before .before .before .pre .0 in
     omega (
       arith,
-      total-le _ _ _ _ _ _ _ _ _ (c .before .before .before .before .before .before .before .before .before .before .loop .inv) (c .before .before .before .before .before .before .before .before .before .loop-test .taken) _ _ _ _ (did (c .before .before .before .before .before)) (p .marks) (p .scratch)
+      total-le _ _ _ _ _ _ _ _ _ (c .before .before .before .before .before .before .before .before .loop .inv) (c .before .before .before .before .before .before .before .loop-test .taken) _ _ _ _ (c .before .before .before .before .before .walk-on .ensures) (p .marks) (p .scratch)
           (sym (c .before .before .passes .ensures) ∙ not-false (c .before .before .passes .result) (c .before .if1 .left)),
     )
 
 loop-again : tie.Need-loop-again Inv-loop μ-loop
 loop-again c =
-    let p = c .before .before .before .before .before .before .before .before .before .before .before .before .before .pre .0 in
-    carries-on _ _ _ _ _ _ _ _ _ (c .before .before .before .before .before .before .before .before .before .before .loop .inv) (c .before .before .before .before .before .before .before .before .before .loop-test .taken) _ _ _ _ (did (c .before .before .before .before .before)) (p .marks) (p .scratch)
+    let p = c .before .before .before .before .before .before .before .before .before .before .before .pre .0 in
+    carries-on _ _ _ _ _ _ _ _ _ (c .before .before .before .before .before .before .before .before .loop .inv) (c .before .before .before .before .before .before .before .loop-test .taken) _ _ _ _ (c .before .before .before .before .before .walk-on .ensures) (p .marks) (p .scratch)
     (sym (c .before .before .passes .ensures) ∙ not-false (c .before .before .passes .result) (c .before .if1 .left))
 
 returns-2 : tie.Need-returns-2 Inv-loop μ-loop
@@ -74,9 +63,7 @@ chains-spec =
     Inv-loop
     μ-loop
     loop-holds
-    first-of-requires
-    (λ c κs. tt)
-    walk-requires
+    walk-on-requires
     passes-requires
     same-length
     returns

@@ -15,11 +15,11 @@ use Rattle.store.proofs.walks.walk.Statement.{statement}
 use Rattle.store.proofs.walks.walk.Tie as tie
 
 abbrev Inv-loop : tie.InvT-loop
-Inv-loop w scratch₀ h faults b base limit first i₀ n₀ last₀ scratch i n last =
-    Going (cellFits (shapeIn h) w faults b) (nextIn (shapeIn h) w faults) scratch₀ base limit first scratch i n last
+Inv-loop w scratch₀ h faults chain base limit first i₀ n₀ last₀ scratch i n last =
+    Going (cellFits (shapeIn h) w faults chain) (nextIn (shapeIn h) w faults) scratch₀ base limit first scratch i n last
 
 abbrev μ-loop : tie.MeasureT-loop
-μ-loop w scratch₀ h faults b base limit first i₀ n₀ last₀ scratch i n last = limit - n
+μ-loop w scratch₀ h faults chain base limit first i₀ n₀ last₀ scratch i n last = limit - n
 
 loop-holds : tie.Need-loop-holds Inv-loop μ-loop
 loop-holds c = start _ _ _ _ _ _
@@ -28,11 +28,11 @@ may-come-requires : tie.Need-may-come-requires Inv-loop μ-loop
 may-come-requires c κs =
     let p = c .before .before .before .before .before .pre in
     let g = c .before .before .loop .inv in
-    (record { read = p .read; cells = p .cells; marks = p .marks; scratch = omega arith; bucket = p .bucket }, omega arith)
+    (record { read = p .0 .read; cells = p .0 .cells; marks = p .0 .marks; scratch = omega (arith, p .0 .scratch) }, p .1, omega arith)
 
 -- what is known once the cell has passed: that it has, that it is within the limit, and that fewer than the limit are behind
 passed : (c : tie.Else1 Inv-loop μ-loop)
-    → mayCome (cellFits (shapeIn (c .before .before .before .before .before .before .before .args .h)) (c .before .before .before .before .before .before .before .args .w .now) (c .before .before .before .before .before .before .before .args .faults) (c .before .before .before .before .before .before .before .args .b)) (c .before .before .before .before .loop .scratch) (c .before .before .before .before .before .before .before .args .base) (c .before .before .before .before .before .before .before .args .limit) (c .before .before .before .before .loop .i) ≡ true
+    → mayCome (cellFits (shapeIn (c .before .before .before .before .before .before .before .args .h)) (c .before .before .before .before .before .before .before .args .w .now) (c .before .before .before .before .before .before .before .args .faults) (c .before .before .before .before .before .before .before .args .chain)) (c .before .before .before .before .loop .scratch) (c .before .before .before .before .before .before .before .args .base) (c .before .before .before .before .before .before .before .args .limit) (c .before .before .before .before .loop .i) ≡ true
 passed c = sym (c .before .may-come .ensures) ∙ not-false (c .before .may-come .result) (c .if1 .left)
 
 within : (c : tie.Else1 Inv-loop μ-loop) → c .before .before .before .before .loop .i ≤ c .before .before .before .before .before .before .before .args .limit
@@ -41,7 +41,7 @@ within c = may-in _ _ _ _ _ (passed c)
 more-left : (c : tie.Else1 Inv-loop μ-loop) → c .before .before .before .before .loop .n < c .before .before .before .before .before .before .before .args .limit
 more-left c =
     let p = c .before .before .before .before .before .before .before .pre in
-    below _ _ _ _ _ _ _ _ _ _ (c .before .before .before .before .loop .inv) (p .marks) (p .scratch) (c .before .before .before .loop-test .taken) (passed c)
+    below _ _ _ _ _ _ _ _ _ _ (c .before .before .before .before .loop .inv) (p .0 .marks) (p .0 .scratch) (c .before .before .before .loop-test .taken) (passed c)
 
 same-length : tie.Need-same-length Inv-loop μ-loop
 same-length c = c .before .before .before .before .loop .inv .long
@@ -53,7 +53,7 @@ returns c =
 
 add-mark : tie.Need-add-mark Inv-loop μ-loop
 unfolding scratchNeed
-add-mark c = omega (arith, within (c .before), c .before .before .before .before .before .before .before .before .pre .marks)
+add-mark c = omega (arith, within (c .before), c .before .before .before .before .before .before .before .before .pre .0 .marks)
 
 mark-requires : tie.Need-mark-requires Inv-loop μ-loop
 mark-requires c κs =
@@ -65,14 +65,14 @@ cell-word-requires : tie.Need-cell-word-requires Inv-loop μ-loop
 cell-word-requires c κs =
     let p = c .before .before .before .before .before .before .before .before .before .before .before .pre in
     let e = within (c .before .before .before .before) in
-    let z = p .cells in
-    (p .read .sized, omega arith, omega arith, width-some (shapeIn (c .before .before .before .before .before .before .before .before .before .before .before .args .h)) (c .before .before .before .before .before .before .before .before .before .before .before .args .faults))
+    let z = p .0 .cells in
+    (p .0 .read .sized, omega arith, omega arith, width-some (shapeIn (c .before .before .before .before .before .before .before .before .before .before .before .args .h)) (c .before .before .before .before .before .before .before .before .before .before .before .args .faults))
 
 loop-again : tie.Need-loop-again Inv-loop μ-loop
 loop-again c =
     let p = c .before .before .before .before .before .before .before .before .before .before .before .before .pre in
     rw (c .before .before .before .mark .ensures, c .cell-word .ensures)
-    (goes-on _ _ _ _ _ _ _ _ _ _ (c .before .before .before .before .before .before .before .before .before .loop .inv) (p .marks) (p .scratch) (c .before .before .before .before .before .before .before .before .loop-test .taken) (passed (c .before .before .before .before .before)))
+    (goes-on _ _ _ _ _ _ _ _ _ _ (c .before .before .before .before .before .before .before .before .before .loop .inv) (p .0 .marks) (p .0 .scratch) (c .before .before .before .before .before .before .before .before .loop-test .taken) (passed (c .before .before .before .before .before)))
 
 returns-2 : tie.Need-returns-2 Inv-loop μ-loop
 returns-2 c = answers _ _ _ _ _ _ _ _ _ _ (c .before .loop .inv) true _ _ (walk-end _ _ _ _ _ _ _ _ _ (c .loop-test .left))
