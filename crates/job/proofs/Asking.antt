@@ -13,7 +13,7 @@ use borrow.Author.Tests.{eqb-true, ne-eqb}
 use Rattle.rules.proofs.Tests.{by-cases}
 use Rattle.model.specs.Serial.{validSerial}
 use Rattle.model.specs.Model.{Store, historyIn}
-use Rattle.model.specs.Layout.{mostFaults, encode, decode, sound}
+use Rattle.model.specs.Layout.{encode, decode, sound}
 use Rattle.model.specs.Calls.{Step, refused, stays, written, enterStep, fileStep, showStep, withdrawStep}
 use Rattle.model.specs.Runs.{Act}
 use Rattle.model.specs.Job.{enough, pairText}
@@ -28,6 +28,7 @@ use Rattle.store.specs.declared.plans.Plan.{Plan}
 use Rattle.job.specs.Turns.{asked, listedBy, Lists}
 use Rattle.job.specs.declared.fields.Parsed.{Parsed}
 use Rattle.job.proofs.Answers.{pairs-only}
+use Rattle.model.specs.Shape.{faultsEver}
 
 -- the step by the kind
 module _ (s : Store) (p : Parsed) where
@@ -92,7 +93,7 @@ listed-all kind faults = ⊎-elim (λ k. rw k) (λ k. rw k)
 
 -- so its plan has a card, whose pairs a room for every fault holds; and once they are written, they are those that the step lists
 module _ (w : List ℕ) (g : Good (decode w)) (p : Parsed) (k : (p .kind ≡ 2) ⊎ (p .kind ≡ 4)) {r : Plan} (plan : Plans (asked (decode w) p .answer) w (p .serial) (p .len) r) (z : r .number ≡ 0)
-    (room : List ℕ) (long : 2 * mostFaults ≤ length room) where
+    (room : List ℕ) (long : 2 * faultsEver ≤ length room) where
   tells : Tells (decode w) (p .serial) (p .len) enough (asked (decode w) p)
   tells = go k (sym (plan .answer .number-is) ∙ z)
     where

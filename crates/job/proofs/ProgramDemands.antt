@@ -11,7 +11,7 @@ use native.Mathlib.Omega.{arith}
 use lib.ListN.{length, take, drop, getD}
 use lib.Seq.{length-take-le, take-take, getD-take}
 use Rattle.model.specs.Serial.{validSerial, validFault}
-use Rattle.model.specs.Layout.{sound, decode}
+use Rattle.model.specs.Layout.{shapeOf, sound, decode}
 use Rattle.model.specs.Calls.{Terms, shapeFor, openCall}
 use Rattle.model.specs.Plain.{Book}
 use Rattle.model.specs.Runs.{run, events, taken, gone, since, tells, bookAfter, bookTells}
@@ -35,7 +35,7 @@ pub record Stands (out front text : List ℕ) : Type 0 where
 
 -- a job on sound words leaves the words of its lines' calls and writes what those lines say; the output behind stays
 pub job-says : (w : List ℕ) → sound w ≡ true → (scratch text out : List ℕ) (t : Tally) (l : Left) → Works w scratch text out t l
-    → (l .words ≡ run w (callsOf (take (l .done .lines) (linesOf text))))
+    → (l .words ≡ run w (callsOf (shapeOf w) (take (l .done .lines) (linesOf text))))
     × (l .out ≡ said w (take (l .done .lines) (linesOf text)) ++ drop (l .done .bytes) out)
 job-says w ok scratch text out t l e =
     let j = job-calls w ok scratch text out (tallyOf t) in
@@ -81,7 +81,7 @@ module _ (w₀ w : List ℕ) (asked : Terms) (o : Opens (openCall w₀ asked) 0 
     earlier = take k (linesOf text)
 
     abbrev pub reached : List ℕ
-    reached = run (endWords w ms) (callsOf earlier)
+    reached = run (endWords w ms) (callsOf (shapeOf (endWords w ms)) earlier)
 
     abbrev pub line : List ℕ
     line = getD (linesOf text) k []
@@ -93,8 +93,8 @@ module _ (w₀ w : List ℕ) (asked : Terms) (o : Opens (openCall w₀ asked) 0 
         let ls = linesOf text in
         let n = l .done .lines in
         let few : n ≤ length ls = rw (e .lines-are) (lines-few v scratch text out (tallyOf t)) in
-        let at = said-at v (take n ls) k (omega (arith, length-take-le n ls few)) in
-        let more = said (run v (callsOf (take (suc k) (take n ls)))) (drop (suc k) (take n ls)) in
+        let at = said-at v (program-demand3 .stays-sound) (take n ls) k (omega (arith, length-take-le n ls few)) in
+        let more = said (run v (callsOf (shapeOf v) (take (suc k) (take n ls)))) (drop (suc k) (take n ls)) in
         record {
           rest = more ++ drop (l .done .bytes) out;
           out-is =
@@ -107,7 +107,7 @@ module _ (w₀ w : List ℕ) (asked : Terms) (o : Opens (openCall w₀ asked) 0 
     -- the fault limit
     pub filing-answered : (field : List ℕ) (day code : ℕ) → lineOf line ≡ Line.file field day code
         → validSerial (padded field) (length field) ≡ true → validFault day code ≡ true → length (look (decode reached) (take (length field) (padded field))) ≡ 1
-        → let es = events w (callsInAll w (map askedIn ms) ++ callsOf earlier) in
+        → let es = events w (callsInAll w (map askedIn ms) ++ callsOf (shapeOf (endWords w ms)) earlier) in
         (stepBy reached (actsOf (lineOf line)) .answer .number ≡ 9) ↔ (since taken es 0 - since gone es 0 ≡ decode reached .shape .faultLimit)
     filing-answered field day code is =
         let q = opened-words w₀ w asked o in rw (same-words w ms a, q .1) (filing-line w₀ asked (q .0) (map askedIn ms) earlier line field day code is)

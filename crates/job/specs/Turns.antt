@@ -7,7 +7,8 @@ use lib.Dec.{ltb, eqb}
 use lib.ListN.{length}
 use lib.Seq.{sets}
 use Rattle.model.specs.Model.{Store}
-use Rattle.model.specs.Layout.{mostFaults, encode, decode}
+use Rattle.model.specs.Shape.{faultsEver}
+use Rattle.model.specs.Layout.{encode, decode}
 use Rattle.model.specs.Calls.{Step, refused, stays, enterStep, fileStep, showStep, withdrawStep}
 use Rattle.model.specs.Job.{enough, lineOf, stepOf, pairText, answerText, counted}
 use Rattle.model.specs.Job as Job
@@ -31,7 +32,7 @@ listedBy kind number faults = cond (eqb number 0) (cond (eqb kind 2) faults (con
 -- the room holds the pairs that the step lists
 pub record Lists (kind : ℕ) (r : Step) (count : ℕ) (room : List ℕ) : Type 0 where
   pub count-is : count ≡ listedBy kind (r .answer .number) (r .answer .faults)
-  pub few : count ≤ mostFaults
+  pub few : count ≤ faultsEver
   pub text-is : pairText count room ≡ pairText count (r .room)
 
 -- what a line leaves: whether its answer fitted, the words, the output and where its text ends, the tally

@@ -3,7 +3,8 @@ ghost use mathlib.Core.Path.{_≡_};
 ghost use mathlib.Core.Bool.{true};
 ghost use Prim.Native.Nat.{_*_, _≤_};
 ghost use lib.ListN.{length};
-ghost use Rattle.model.specs.Layout.{mostFaults, sound};
+ghost use Rattle.model.specs.Shape.{faultsEver};
+ghost use Rattle.model.specs.Layout.{sound};
 ghost use Rattle.model.specs.Job.{mostText};
 ghost use Rattle.job.specs.Runs.{linesOn, Ends, turnedBack, Did};
 ghost use Rattle.job.specs.Counts.{tallyOf};
@@ -14,7 +15,7 @@ pub mod tally; // tally.rt: what a job counts
 pub mod text; // text.rt: numbers and answers as text
 mod turn; // turn.rt: one line, from its bytes to its answer
 
-pub use store::NEED as SCRATCH; // the bytes of scratch that a job takes: those of the checker
+pub use store::NEED as SCRATCH; // the bytes of scratch that a job takes at most: those of the checker
 pub use tally::Tally;
 
 // How a job ended: its number, 0 if all lines were answered, the lines done and the bytes written.
@@ -35,7 +36,7 @@ pub const LONGEST: usize = 16384;
 
 // The lines of a text on a store known to be sound, one turn a line, until one does not fit.
 fn each_line(words: &mut [u32], room: &mut [u32], text: &[u8], out: &mut [u8], tally: Tally) -> Ran
-    requires { ⌜ (sound (now words) ≡ true) × (2 * mostFaults ≤ length (now room)) × (length (now text) ≤ mostText) ⌝ }
+    requires { ⌜ (sound (now words) ≡ true) × (2 * faultsEver ≤ length (now room)) × (length (now text) ≤ mostText) ⌝ }
     ensures { λ r. ⌜ Ends (linesOn (now (words .entry)) (now (text .entry)) (now (out .entry)) (tallyOf tally)) (now (out .entry)) (r .done) (r .tally) (now (words .exit)) (now (out .exit)) ⌝ }
 {
     let mut sum = tally;
@@ -98,11 +99,12 @@ fn refused(number: u32, tally: Tally) -> Ran
 pub fn work(words: &mut [u32], scratch: &mut [u8], text: &[u8], out: &mut [u8], tally: Tally) -> Ran
     ensures { λ r. ⌜ Did (now (words .entry)) (now (scratch .entry)) (now (text .entry)) (now (out .entry)) tally (r .done) (r .tally) (now (words .exit)) (now (scratch .exit)) (now (out .exit)) ⌝ }
 {
-    if scratch.len() < SCRATCH {
+    let n = store::need(words);
+    if scratch.len() < n {
         return refused(11, tally);
     }
     if LONGEST < text.len() {
-        store::clear(scratch);
+        store::clear(scratch, n);
         return refused(13, tally);
     }
     if !store::check(words, scratch) {

@@ -4,7 +4,7 @@ ghost use mathlib.Core.Path.{_≡_};
 ghost use mathlib.Core.Bool.{true};
 ghost use Prim.Native.Nat.{_+_, _*_, _≤_};
 ghost use lib.ListN.{length};
-ghost use Rattle.model.specs.Layout.{mostFaults, decode, encode, sound};
+ghost use Rattle.model.specs.Layout.{decode, encode, sound};
 ghost use Rattle.store.specs.Plans.{Plans};
 ghost use Rattle.job.specs.Counts.{tallyOf};
 ghost use Rattle.job.specs.Text.{Puts, AnswerLong, answerOf};
@@ -21,6 +21,7 @@ use store::plans;
 use store::plans::Plan;
 use store::shows;
 use store::withdraws;
+ghost use Rattle.model.specs.Shape.{faultsEver};
 
 // Whether the answer fitted, where the text ends now, and the tally after the line.
 pub struct Turned {
@@ -29,7 +30,7 @@ pub struct Turned {
     pub tally: Tally,
 }
 
-// The room that a line is given for pairs: two words for each fault that a store can hold.
+// The room that a line is given for pairs: two words for each fault that a store of any format can hold.
 pub const ROOM: usize = 2 * layout::MOST_FAULTS as usize;
 
 // The plan of a line, by its kind: 12 for one that is not well formed.
@@ -50,7 +51,7 @@ fn planned(words: &[u32], p: Parsed) -> Plan
 
 // Writes the pairs that a done show or withdraw lists into the room, and says how many there are; any other line lists none.
 fn listed(words: &[u32], p: Parsed, plan: Plan, room: &mut [u32]) -> u32
-    requires { ⌜ (sound (now words) ≡ true) × Plans (asked (decode (now words)) p .answer) (now words) (p .serial) (p .len) plan × (2 * mostFaults ≤ length (now room)) ⌝ }
+    requires { ⌜ (sound (now words) ≡ true) × Plans (asked (decode (now words)) p .answer) (now words) (p .serial) (p .len) plan × (2 * faultsEver ≤ length (now room)) ⌝ }
     ensures { λ r. ⌜ Lists (p .kind) (asked (decode (now (words .entry))) p) r (now (room .exit)) ⌝ }
 {
     if plan.number != 0 {
@@ -125,7 +126,7 @@ pub fn turn(
     at: usize,
     tally: Tally,
 ) -> Turned
-    requires { ⌜ (sound (now words) ≡ true) × (2 * mostFaults ≤ length (now room)) × (at ≤ length (now out)) ⌝ }
+    requires { ⌜ (sound (now words) ≡ true) × (2 * faultsEver ≤ length (now room)) × (at ≤ length (now out)) ⌝ }
     ensures { λ r. ⌜ Turns (turnOf (now (words .entry)) (now (line .entry)) (now (out .entry)) at (tallyOf tally)) at r (now (words .exit)) (now (out .exit)) ⌝ }
 {
     let p = fields::parse(line);

@@ -11,10 +11,9 @@ use lib.Seq.{getD-append-add}
 use Rattle.rules.proofs.Tests.{both}
 use Rattle.model.specs.Lists.{all, from}
 use Rattle.model.specs.Serial.{serialOk}
-use Rattle.model.specs.Shape.{Shape, entries, topOf}
+use Rattle.model.specs.Shape.{Shape, topOf, cardWidth}
 use Rattle.model.specs.Model.{Store, Card, Fault, cards, size, bucket, cellsOf, faultCellsOf}
-use Rattle.model.specs.Layout.{formatAt, limitAt, faultLimitAt, maxpAt, pAt, freeAt, freeFaultsAt, boundsAt, toNext, toLength, toSerial, toFirst, toDay, toCode}
-use Rattle.model.specs.Layout.{Cell, headOr, chained, cellAt, atsOf, cardWidth, faultWidth, segmentsAt, cardCell, faultCell, freeCell, cardChains, faultChains, cardsAt, faultsAt, header, directory, segments, front, first, follow, cardWord, faultWord, readFault, readCard, readChain, shapeOf, decodeAs, decode, goodCard}
+use Rattle.model.specs.Layout.{formatAt, limitAt, faultLimitAt, maxpAt, pAt, freeAt, freeFaultsAt, boundsAt, toNext, toLength, toSerial, toFirst, toDay, toCode, Cell, headOr, chained, atsOf, faultWidth, segmentsAt, cardCell, faultCell, freeCell, cardChains, faultChains, cardsAt, faultsAt, header, directory, segments, front, first, follow, cardWord, faultWord, readFault, readCard, readChain, shapeOf, decodeAs, decode, goodCard}
 use Rattle.model.proofs.Lists.{Every, every-join, at-every, every-map}
 use Rattle.model.proofs.Tables.{table-is}
 use Rattle.model.proofs.Chains.{Stands, Stand}

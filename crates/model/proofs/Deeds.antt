@@ -12,8 +12,9 @@ use lib.ListN.{length, take, drop, getD, length-replicate}
 use Rattle.rules.proofs.Tests.{by-cases}
 use Rattle.model.specs.Serial.{validSerial, validFault}
 use Rattle.model.specs.Model.{Store}
-use Rattle.model.specs.Layout.{encode, decode, sound}
-use Rattle.model.specs.Calls.{Terms, shapeFor, Step, scratchNeed, openCall}
+use Rattle.model.specs.Shape.{Shape, need}
+use Rattle.model.specs.Layout.{shapeOf, encode, decode, sound}
+use Rattle.model.specs.Calls.{Terms, shapeFor, Step, openCall}
 use Rattle.model.specs.Runs.{Act, perform, Call, Call.acting, wordsAfter, run, events, taken, gone, since}
 use Rattle.model.specs.Job.{Line, linesOf, padded, lineOf, enough, stepOf, answerText, Tally, counted, Run, runLines, started, Finished, mostText, job}
 use Rattle.model.specs.Deeds.{actsOf, tidy, callsBy, callsOf, stepBy, saidBy, said, Deed, Deed.calling, Deed.working, wordsBy, wordsByAll, callsIn, callsInAll}
@@ -22,23 +23,28 @@ use Rattle.model.proofs.Sound.{sound-good}
 use Rattle.model.proofs.Fresh.{fresh-sound}
 use Rattle.model.proofs.Demand3.{good-act}
 use Rattle.model.proofs.Demand2.{bookOf, emptyBook}
-use Rattle.model.proofs.Outcomes.{read-back, call-cases, opened-fresh, sound-run}
+use Rattle.model.proofs.Outcomes.{read-back, call-cases, opened-fresh, sound-call, shape-call, sound-run}
 use Rattle.model.proofs.Demands.{Demand3, Demand2, demand3, demand2, demand2-from}
 
 run-append : (w : List ℕ) (cs ds : List Call) → run w (cs ++ ds) ≡ run (run w cs) ds
 run-append w [] ds = refl
 run-append w (c ∷ cs) ds = run-append (wordsAfter w c) cs ds
 
-pub tidy-long : scratchNeed ≤ length tidy
+pub tidy-long : (sh : Shape) → need sh ≤ length (tidy sh)
 unfolding tidy
-tidy-long = omega (arith, length-replicate {A = ℕ} scratchNeed 0)
+tidy-long sh = omega (arith, length-replicate {A = ℕ} (need sh) 0)
+
+-- no acts on a sound store change its shape
+shape-acts : (w : List ℕ) → sound w ≡ true → (scratch : List ℕ) (acts : List Act) → shapeOf (run w (map (acting scratch) acts)) ≡ shapeOf w
+shape-acts w ok scratch [] = refl
+shape-acts w ok scratch (a ∷ acts) = shape-acts (wordsAfter w (acting scratch a)) (sound-call w ok (acting scratch a)) scratch acts ∙ shape-call w ok scratch a
 
 module _ (w : List ℕ) (ok : sound w ≡ true) where
   -- an act with enough scratch
   act-step : (a : Act) → perform (decode w) a ≡ stepBy w (a ∷ [])
   act-step a =
-      call-cases w tidy a ok (λ o. perform (decode w) a ≡ record { answer = o .answer; store = decode (o .words); room = o .room })
-      (λ h. absurd (omega (arith, tidy-long)))
+      call-cases w (tidy (shapeOf w)) a ok (λ o. perform (decode w) a ≡ record { answer = o .answer; store = decode (o .words); room = o .room })
+      (λ h. absurd (omega (arith, tidy-long (shapeOf w))))
       (λ h. rw (read-back (perform (decode w) a .store) (good-act (decode w) (sound-good w ok .0) a .fair)))
 
   line-step : (l : Line) → stepOf (decode w) l ≡ stepBy w (actsOf l)
@@ -49,7 +55,7 @@ module _ (w : List ℕ) (ok : sound w ≡ true) where
   line-step (Line.withdraw f) = act-step (Act.withdraw (padded f) (length f) enough)
   line-step (Line.file f day code) = act-step (Act.file (padded f) (length f) day code)
 
-  step-store : (l : Line) → stepBy w (actsOf l) .store ≡ decode (run w (map (acting tidy) (actsOf l)))
+  step-store : (l : Line) → stepBy w (actsOf l) .store ≡ decode (run w (map (acting (tidy (shapeOf w))) (actsOf l)))
   step-store Line.bad = refl
   step-store (Line.enter f) = refl
   step-store (Line.show f) = refl
@@ -60,7 +66,7 @@ module _ (w : List ℕ) (ok : sound w ≡ true) where
 record Through (w : List ℕ) (xs : List (List ℕ)) (from to : Run) : Type 0 where
   pub done : ℕ
   pub lines : to .lines ≡ from .lines + done
-  pub store : to .store ≡ decode (run w (callsOf (take done xs)))
+  pub store : to .store ≡ decode (run w (callsOf (shapeOf w) (take done xs)))
   pub text : to .text ≡ from .text ++ said w (take done xs)
 
 -- the state after one more line
@@ -79,16 +85,20 @@ module _ (w : List ℕ) (ok : sound w ≡ true) (r : Run) (e : r .store ≡ deco
   same-step : stepOf (r .store) (lineOf x) ≡ stepBy w (actsOf (lineOf x))
   same-step = ap (λ (s : Store). stepOf s (lineOf x)) e ∙ line-step w ok (lineOf x)
 
-  same-store : after r x .store ≡ decode (run w (callsBy x))
+  same-store : after r x .store ≡ decode (run w (callsBy (shapeOf w) x))
   same-store = ap (λ (q : Step). q .store) same-step ∙ step-store w ok (lineOf x)
 
-  one-more : (xs : List (List ℕ)) (to : Run) → Through (run w (callsBy x)) xs (after r x) to → Through w (x ∷ xs) r to
+  one-more : (xs : List (List ℕ)) (to : Run) → Through (run w (callsBy (shapeOf w) x)) xs (after r x) to → Through w (x ∷ xs) r to
   one-more xs to q =
-      let later = said (run w (callsBy x)) (take (q .done) xs) in
+      let next = run w (callsBy (shapeOf w) x) in
+      let xs′ = take (q .done) xs in
+      let later = said next xs′ in
       record {
         done = suc (q .done);
         lines = omega (arith, q .lines);
-        store = q .store ∙ ap decode (sym (run-append w (callsBy x) (callsOf (take (q .done) xs))));
+        store =
+            q .store ∙ ap (λ (sh : Shape). decode (run next (callsOf sh xs′))) (shape-acts w ok (tidy (shapeOf w)) (actsOf (lineOf x)))
+            ∙ ap decode (sym (run-append w (callsBy (shapeOf w) x) (callsOf (shapeOf w) xs′)));
         text =
             q .text ∙ append-assoc (r .text) (answerText (lineOf x) (stepOf (r .store) (lineOf x))) later
             ∙ ap (λ (s : Step). r .text ++ (answerText (lineOf x) s ++ later)) same-step;
@@ -118,36 +128,36 @@ lines-run (x ∷ xs) w ok room r e =
     (either (Through w (x ∷ xs) r) (ltb room (length (r .text) + length (answerText (lineOf x) (stepOf (r .store) (lineOf x))))) (stopped r) (runLines xs room (after r x))
     (record { done = 0; lines = omega arith; store = e; text = sym (append-nil (r .text)) })
     (one-more w ok r e x xs (runLines xs room (after r x))
-    (lines-run xs (run w (callsBy x)) (sound-run w ok (callsBy x)) room (after r x) (same-store w ok r e x))))
+    (lines-run xs (run w (callsBy (shapeOf w) x)) (sound-run w ok (callsBy (shapeOf w) x)) room (after r x) (same-store w ok r e x))))
 
 -- so the words of the store that the lines leave are read back as that store
 pub lines-store : (w : List ℕ) → sound w ≡ true → (xs : List (List ℕ)) (room : ℕ) (t : Tally)
     → let r = runLines xs room (started (decode w) t) in decode (encode (r .store)) ≡ r .store
 lines-store w ok xs room t =
     let q = lines-run xs w ok room (started (decode w) t) refl in
-    let cs = callsOf (take (q .done) xs) in
+    let cs = callsOf (shapeOf w) (take (q .done) xs) in
     ap (λ (s : Store). decode (encode s)) (q .store) ∙ ap decode (sound-good (run w cs) (sound-run w ok cs) .1) ∙ sym (q .store)
 
 -- a job on the words w that ended so
 pub record JobCalls (w text out : List ℕ) (j : Finished) : Type 0 where
   -- the words that it leaves are those that the calls of its answered lines leave
-  pub words-are : j .words ≡ run w (callsOf (take (j .lines) (linesOf text)))
+  pub words-are : j .words ≡ run w (callsOf (shapeOf w) (take (j .lines) (linesOf text)))
   -- what it wrote is what those lines say; the output behind stays
   pub bytes-are : j .bytes ≡ length (said w (take (j .lines) (linesOf text)))
   pub out-is : j .out ≡ said w (take (j .lines) (linesOf text)) ++ drop (j .bytes) out
 
 -- one that goes on to its lines
 went : (w text out : List ℕ) (t : Tally) → sound w ≡ true → (r : Run) → Through w (linesOf text) (started (decode w) t) r
-    → (encode (r .store) ≡ run w (callsOf (take (r .lines) (linesOf text)))) × (r .text ≡ said w (take (r .lines) (linesOf text)))
+    → (encode (r .store) ≡ run w (callsOf (shapeOf w) (take (r .lines) (linesOf text)))) × (r .text ≡ said w (take (r .lines) (linesOf text)))
 went w text out t ok r q =
     let z : r .lines ≡ q .done = omega (arith, q .lines) in
-    let cs = callsOf (take (q .done) (linesOf text)) in
+    let cs = callsOf (shapeOf w) (take (q .done) (linesOf text)) in
     rw z (ap encode (q .store) ∙ sound-good (run w cs) (sound-run w ok cs) .1, q .text)
 
 pub job-calls : (w : List ℕ) → sound w ≡ true → (scratch text out : List ℕ) (t : Tally) → JobCalls w text out (job w scratch text out t)
 unfolding job
 job-calls w ok scratch text out t =
-    by-cases (ltb (length scratch) scratchNeed)
+    by-cases (ltb (length scratch) (need (shapeOf w)))
     (λ h. rw h (record { words-are = refl; bytes-are = refl; out-is = refl }))
     (λ h. rw h (by-cases (ltb mostText (length text))
     (λ m. rw m (record { words-are = refl; bytes-are = refl; out-is = refl }))
@@ -156,13 +166,21 @@ job-calls w ok scratch text out t =
     rw (m, ok) (record { words-are = q .0; bytes-are = ap length (q .1); out-is = ap (λ (l : List ℕ). l ++ drop (length (r .text)) out) (q .1) }))))
 
 -- what lines say, at line k: behind what those before it say stands what it says itself, on the words that they leave
-pub said-at : (w : List ℕ) (xs : List (List ℕ)) (k : ℕ) → k < length xs
-    → said w xs ≡ said w (take k xs) ++ (saidBy (run w (callsOf (take k xs))) (getD xs k []) ++ said (run w (callsOf (take (suc k) xs))) (drop (suc k) xs))
-said-at w [] k h = absurd (omega arith)
-said-at w (x ∷ xs) zero h = rw (append-nil (callsBy x))
-said-at w (x ∷ xs) (suc k) h =
-    rw (run-append w (callsBy x) (callsOf (take k xs)), run-append w (callsBy x) (callsOf (take (suc k) xs)), said-at (run w (callsBy x)) xs k (omega arith))
-    (sym (append-assoc (saidBy w x) (said (run w (callsBy x)) (take k xs)) _))
+pub said-at : (w : List ℕ) → sound w ≡ true → (xs : List (List ℕ)) (k : ℕ) → k < length xs
+    → let sh = shapeOf w in
+    said w xs ≡ said w (take k xs) ++ (saidBy (run w (callsOf sh (take k xs))) (getD xs k []) ++ said (run w (callsOf sh (take (suc k) xs))) (drop (suc k) xs))
+said-at w ok [] k h = absurd (omega arith)
+said-at w ok (x ∷ xs) zero h = rw (append-nil (callsBy (shapeOf w) x))
+said-at w ok (x ∷ xs) (suc k) h =
+    let sh = shapeOf w in
+    let next = run w (callsBy sh x) in
+    rw (
+      run-append w (callsBy sh x) (callsOf sh (take k xs)),
+      run-append w (callsBy sh x) (callsOf sh (take (suc k) xs)),
+      subst (λ (s : Shape). said next xs ≡ said next (take k xs) ++ (saidBy (run next (callsOf s (take k xs))) (getD xs k []) ++ said (run next (callsOf s (take (suc k) xs))) (drop (suc k) xs)))
+          (shape-acts w ok (tidy sh) (actsOf (lineOf x))) (said-at next (sound-run w ok (callsBy sh x)) xs k (omega arith)),
+    )
+    (sym (append-assoc (saidBy w x) (said next (take k xs)) _))
 
 -- sequences
 
@@ -197,14 +215,22 @@ module _ (w₀ : List ℕ) (t : Terms) (accepted : openCall w₀ t .number ≡ 0
   deeds-demand2 ds = (demand2 w₀ t accepted (callsInAll w ds), deeds-run w ok ds)
 
   -- the same in the middle of a job, before the line that some lines lead to
-  pub at-a-line : (ds : List Deed) (xs : List (List ℕ)) → Demand3 (run (wordsByAll w ds) (callsOf xs)) (events w (callsInAll w ds ++ callsOf xs))
+  abbrev pub reached : List Deed → List (List ℕ) → List ℕ
+  reached ds xs = run (wordsByAll w ds) (callsOf (shapeOf (wordsByAll w ds)) xs)
+
+  abbrev pub callsTo : List Deed → List (List ℕ) → List Call
+  callsTo ds xs = callsInAll w ds ++ callsOf (shapeOf (wordsByAll w ds)) xs
+
+  pub at-a-line : (ds : List Deed) (xs : List (List ℕ)) → Demand3 (reached ds xs) (events w (callsTo ds xs))
   at-a-line ds xs =
-      rw (deeds-run w ok ds, ← (run-append w (callsInAll w ds) (callsOf xs))) (demand3 w₀ t accepted (callsInAll w ds ++ callsOf xs))
+      let ls = callsOf (shapeOf (run w (callsInAll w ds))) xs in
+      rw (deeds-run w ok ds, ← (run-append w (callsInAll w ds) ls)) (demand3 w₀ t accepted (callsInAll w ds ++ ls))
 
   -- a filing line that is reached, on a valid serial that is held, with day and code in range: 9 exactly at the fault limit
   pub filing-line : (ds : List Deed) (xs : List (List ℕ)) (x field : List ℕ) (day code : ℕ) → lineOf x ≡ Line.file field day code
       → validSerial (padded field) (length field) ≡ true → validFault day code ≡ true
-      → length (look (decode (run (wordsByAll w ds) (callsOf xs))) (take (length field) (padded field))) ≡ 1
-      → (stepBy (run (wordsByAll w ds) (callsOf xs)) (actsOf (lineOf x)) .answer .number ≡ 9)
-      ↔ (since taken (events w (callsInAll w ds ++ callsOf xs)) 0 - since gone (events w (callsInAll w ds ++ callsOf xs)) 0 ≡ decode (run (wordsByAll w ds) (callsOf xs)) .shape .faultLimit)
-  filing-line ds xs x field day code e v u one = rw e (at-a-line ds xs .room tidy (padded field) (length field) day code tidy-long v u one)
+      → length (look (decode (reached ds xs)) (take (length field) (padded field))) ≡ 1
+      → let es = events w (callsTo ds xs) in
+      (stepBy (reached ds xs) (actsOf (lineOf x)) .answer .number ≡ 9) ↔ (since taken es 0 - since gone es 0 ≡ decode (reached ds xs) .shape .faultLimit)
+  filing-line ds xs x field day code e v u one =
+      let sh = shapeOf (reached ds xs) in rw e (at-a-line ds xs .room (tidy sh) (padded field) (length field) day code (tidy-long sh) v u one)

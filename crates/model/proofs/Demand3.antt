@@ -25,7 +25,7 @@ use Rattle.model.proofs.Lists.{same-eq, same-sym, map-append}
 use Rattle.model.proofs.Fair.{filings, Good, faults-total}
 use Rattle.model.proofs.Look.{look, card-look}
 use Rattle.model.proofs.Steps.{filed-look, filed-total}
-use Rattle.model.proofs.Accepted.{entered-good, entered-look, entered-total, filed-good, withdrawn-good, withdrawn-look, withdrawn-total, fresh-good, fresh-look}
+use Rattle.model.proofs.Accepted.{entered-shape, filed-shape, withdrawn-shape, entered-good, entered-look, entered-total, filed-good, withdrawn-good, withdrawn-look, withdrawn-total, fresh-good, fresh-look}
 use Rattle.model.proofs.Cases.{valid-serial, enter-cases, file-cases, show-cases, withdraw-cases}
 use Rattle.model.proofs.Numbers.{file-numbers}
 
@@ -40,6 +40,17 @@ good-act s g (file bytes n day code) =
 good-act s g (show bytes n room) = show-cases s g bytes n (λ r. Good (r .store)) room (λ v. g) (λ v l. g) (λ v l f. g) (λ v l f. g)
 good-act s g (withdraw bytes n room) =
     withdraw-cases s g bytes n (λ r. Good (r .store)) room (λ v. g) (λ v l. g) (λ v l f. g) (λ v l f. withdrawn-good s g (take n bytes) l)
+
+pub shape-act : (s : Store) → Good s → (a : Act) → perform s a .store .shape ≡ s .shape
+shape-act s g (enter bytes n) =
+    enter-cases s g bytes n (λ r. r .store .shape ≡ s .shape) (λ v. refl) (λ v l. refl) (λ v l f. refl) (λ v l f. entered-shape s (take n bytes))
+shape-act s g (file bytes n day code) =
+    file-cases s g bytes n (λ r. r .store .shape ≡ s .shape) day code (λ v. refl) (λ v w. refl) (λ v w l. refl) (λ v w l f. refl)
+    (λ v w l f. filed-shape s (take n bytes) day code)
+shape-act s g (show bytes n room) =
+    show-cases s g bytes n (λ r. r .store .shape ≡ s .shape) room (λ v. refl) (λ v l. refl) (λ v l f. refl) (λ v l f. refl)
+shape-act s g (withdraw bytes n room) =
+    withdraw-cases s g bytes n (λ r. r .store .shape ≡ s .shape) room (λ v. refl) (λ v l. refl) (λ v l f. refl) (λ v l f. withdrawn-shape s (take n bytes))
 
 -- the history of a serial in a store: empty if it is not held
 abbrev pub historyOf : Store → List ℕ → List Slip

@@ -16,8 +16,9 @@ use lib.ListN.{length, take}
 use borrow.Author.Tests.{eq-eqb, ne-eqb, lt-ltb, le-ltb}
 use Rattle.model.specs.Serial.{validSerial, validFault}
 use Rattle.model.specs.Model.{Card, cards, faultsHeld, fresh}
-use Rattle.model.specs.Layout.{lengthFor, encode, decode, sound}
-use Rattle.model.specs.Calls.{scratchNeed, Terms, shapeFor, openCall}
+use Rattle.model.specs.Shape.{need}
+use Rattle.model.specs.Layout.{shapeOf, lengthFor, encode, decodeAs, decode, sound}
+use Rattle.model.specs.Calls.{Terms, shapeFor, openCall}
 use Rattle.model.specs.Plain.{slip, Book, Reply, bookOpen}
 use Rattle.model.specs.Runs.{Act.file, perform, Call, Call.opening, Call.acting, outcome, wordsAfter, run, Event, Event.opened, Event.answered, eventsOf, events, history, taken, gone, since, Tell, tellOf, tells, bookCall, bookAfter, bookTells}
 use Rattle.model.proofs.Look.{look}
@@ -51,7 +52,7 @@ pub record Demand3 (w : List ℕ) (es : List Event) : Type 0 where
   -- faults accepted are those gone with withdrawn cards and the sum of all held histories
   pub conserved : since taken es 0 ≡ faultsHeld (decode w) + since gone es 0
   -- a filing that is otherwise in order is refused for room exactly when faults accepted less faults gone are the fault limit
-  pub room : (scratch bytes : List ℕ) (n day code : ℕ) → scratchNeed ≤ length scratch → validSerial bytes n ≡ true → validFault day code ≡ true
+  pub room : (scratch bytes : List ℕ) (n day code : ℕ) → need (shapeOf w) ≤ length scratch → validSerial bytes n ≡ true → validFault day code ≡ true
       → length (look (decode w) (take n bytes)) ≡ 1
       → (outcome w scratch (file bytes n day code) .answer .number ≡ 9) ↔ (since taken es 0 - since gone es 0 ≡ decode w .shape .faultLimit)
 
@@ -86,7 +87,7 @@ pub record AsBook (t : Tell) (w : List ℕ) (r : Reply) : Type 0 where
   pub agrees : Agrees (r .book) (decode w)
 
 pub book-call : (w : List ℕ) → sound w ≡ true → (b : Book) → Agrees b (decode w) → (c : Call) → AsBook (tellOf w c) (wordsAfter w c) (bookCall b c)
-unfolding bookOpen
+unfolding bookOpen decodeAs
 book-call w ok b a (opening t) =
     let sh = shapeFor t in
     let long : length w ≡ lengthFor (b .shape) = rw (a .shape) (sound-is w ok .0 .long) in
@@ -98,10 +99,10 @@ book-call w ok b a (opening t) =
 book-call w ok b a (acting scratch act) =
     call-cases w scratch act ok
     (λ r. AsBook (record { number = r .answer .number; faults = r .answer .faults; room = r .room }) (r .words) (bookCall b (acting scratch act)))
-    (λ h. rw (lt-ltb (length scratch) scratchNeed h) (record { tell = refl; agrees = a }))
+    (λ h. rw (lt-ltb (length scratch) (need (b .shape)) (rw (a .shape) h)) (record { tell = refl; agrees = a }))
     (λ h. let g = sound-good w ok .0 in
     let m = call-match b (decode w) g a act in
-    rw (le-ltb (length scratch) scratchNeed h)
+    rw (le-ltb (length scratch) (need (b .shape)) (rw (a .shape) h))
     (record { tell = rw (m .number, m .faults, m .room); agrees = rw (read-back (perform (decode w) act .store) (good-act (decode w) g act .fair)) (m .agrees) }))
 
 -- what demand 2 asks of words w and calls cs beside the list b

@@ -13,12 +13,12 @@ use Rattle.rules.specs.Table.{least, top, stateOk}
 use Rattle.rules.proofs.Tests.{by-cases, both, all-of, either}
 use Rattle.rules.proofs.States.{state-of, state-wider, size-low}
 use Rattle.model.specs.Lists.{all, same, keep, join, total}
-use Rattle.model.specs.Shape.{entries, topOf}
+use Rattle.model.specs.Shape.{topOf, cardWidth}
 use Rattle.model.specs.Model.{Fault, Card, Store, cards, histories, held, faultsHeld, size, bucket, is, faultCellsOf}
-use Rattle.model.specs.Layout.{Cell, atsOf, cardWidth, faultWidth, cardCell, faultCell, freeCell, cardChains, faultChains, eachOnce, firstUpper, shapeOk, goodCard, goodBuckets, cellsOk, serialsOk, loadOk, fair}
+use Rattle.model.specs.Layout.{Cell, atsOf, faultWidth, cardCell, faultCell, freeCell, cardChains, faultChains, eachOnce, firstUpper, shapeOk, goodCard, goodBuckets, cellsOk, serialsOk, loadOk, fair}
 use Rattle.model.proofs.Lists.{same-is, all-from, from-all}
 use Rattle.model.proofs.Sums.{bit, count, total-append, total-map, total-flat, total-maps, length-total, distinct-total, total-distinct}
-use Rattle.model.proofs.Shapes.{entries-some, top-most, shaped}
+use Rattle.model.proofs.Shapes.{top-most, shaped, cards-top}
 use Rattle.model.proofs.Each.{many, Each, each-is, is-each, each-moved}
 
 -- what is counted of a card: itself, its faults, whether it stands in a cell, its faults in a cell, whether it has a serial
@@ -199,4 +199,4 @@ high-four s g =
     by-cases (ltb (size s) (topOf (s .shape)))
     (λ e. let h : held s ≤ s .shape .upper * size s = g .high (ltb-true (size s) (topOf (s .shape)) e) in
     let u : s .shape .upper * size s ≡ firstUpper * size s = ap (λ (n : ℕ). n * size s) (k .known .1) in omega arith)
-    (λ e. omega (arith, ltb-false (size s) (topOf (s .shape)) e, card-count s, g .fair .cells .count, k .most, entries-some (s .shape)))
+    (λ e. omega (arith, ltb-false (size s) (topOf (s .shape)) e, card-count s, g .fair .cells .count, k .most, cards-top (s .shape)))

@@ -14,8 +14,7 @@ use borrow.Author.Tests.{ne-eqb}
 use Rattle.model.specs.Lists.{join}
 use Rattle.model.specs.Serial.{validFault}
 use Rattle.model.specs.Model.{Store, Card, Fault, cards, held, faultsHeld, addressIn, chainFor, before, cellsOf, faultCellsOf, newFault, withFault, filed}
-use Rattle.model.specs.Layout.{faultsHeldAt, freeFaultsAt, toNext, toFirst, toLast, toCount}
-use Rattle.model.specs.Layout.{Cell, cardWidth, faultWidth, cardsAt, faultsAt, cardCell, faultCell, freeCell, cardChains, faultChains, header, directory, segments, front, first, last, packed, faultWord}
+use Rattle.model.specs.Layout.{faultsHeldAt, freeFaultsAt, toNext, toFirst, toLast, toCount, Cell, faultWidth, cardsAt, faultsAt, cardCell, faultCell, freeCell, cardChains, faultChains, header, directory, segments, front, first, last, packed, faultWord}
 use Rattle.model.specs.Words.{cardAt, faultAt, fileWords}
 use Rattle.model.proofs.Lists.{map-append, map-set}
 use Rattle.model.proofs.Sums.{length-total}
@@ -33,6 +32,7 @@ use Rattle.model.proofs.Look.{address-in}
 use Rattle.model.proofs.Steps.{filed-total, filed-fair}
 use Rattle.model.proofs.Cut.{Present}
 use Rattle.model.proofs.Whole.{Whole, rep-whole, whole-rep, each-apart, front-write, fault-fill, fault-chain, fault-behind, card-word, faults-fit, fronted, segments-kept, historyOf, cards-joined, history-get, history-set, history-below, taken-in, taken-none, taken-apart, taken-rest, taken-next, ends, last-none, last-at}
+use Rattle.model.specs.Shape.{cardWidth}
 
 module _ (w : List ℕ) (s : Store) (r : Rep w s) (y : List ℕ) (day code : ℕ) (valid : validFault day code ≡ true) (p : Present y (chainFor s y)) (room : faultsHeld s < s .shape .faultLimit) where
   abbrev a : ℕ

@@ -11,9 +11,9 @@ use Rattle.rules.specs.Table.{least}
 use Rattle.rules.proofs.States.{s16, state-ok}
 use Rattle.rules.proofs.Tests.{eq?}
 use Rattle.model.specs.Lists.{from}
-use Rattle.model.specs.Shape.{Shape}
+use Rattle.model.specs.Shape.{Shape, cardWidth}
 use Rattle.model.specs.Model.{Card, fresh}
-use Rattle.model.specs.Layout.{Cell, cardWidth, faultWidth, freeCell, shapeOk, encode, sound}
+use Rattle.model.specs.Layout.{Cell, faultWidth, freeCell, shapeOk, encode, sound}
 use Rattle.model.proofs.Sums.{bit-same, bit-other}
 use Rattle.model.proofs.Each.{many, Each}
 use Rattle.model.proofs.Shapes.{entries-some}

@@ -3,7 +3,7 @@
 -- held changes: not the sums over the cards (`X-total`), not the card of any serial (`X-look`), and each card stands at its new
 -- address (`X-fair`). `grown` and `shrunk` do that or nothing, and bring the load back within its bounds (`grown-good`, `shrunk-good`).
 use Prim.Native.Nat.{ℕ, _+_, _-_, _*_, _%_, _≤_, _<_}
-use mathlib.Core.Path.{_≡_, refl, sym, ap, _∙_}
+use mathlib.Core.Path.{_≡_, refl, sym, _∙_}
 use mathlib.Core.Logic.{_⊎_, inl, inr, ⊎-elim}
 use mathlib.Core.List.{List, [], _∷_, _++_, append-nil}
 use mathlib.Core.Bool.{true, not, cond}

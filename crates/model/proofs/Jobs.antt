@@ -12,13 +12,14 @@ use lib.ListN.{length, take, getD, length-append, length-replicate}
 use borrow.Author.Tests.{ltb-true, ltb-false, lt-ltb, le-ltb}
 use Rattle.rules.proofs.Tests.{by-cases, not-both}
 use Rattle.model.specs.Model.{Store, cards, historyIn}
-use Rattle.model.specs.Layout.{mostFaults, decode, sound}
-use Rattle.model.specs.Calls.{scratchNeed, cleaned}
+use Rattle.model.specs.Shape.{faultsEver, need}
+use Rattle.model.specs.Layout.{shapeOf, decode, sound}
+use Rattle.model.specs.Calls.{cleaned}
 use Rattle.model.specs.Runs.{Act, perform}
 use Rattle.model.specs.Runs as Runs
 use Rattle.model.specs.Job.{linesOf, Line, bad, enter, show, withdraw, file, kind, lineOf, padded, enough, stepOf, answerText, Tally, Run, runLines, started, Finished, turnedAway, jobIf, mostText, job}
 use Rattle.model.proofs.Fair.{filings, Good, faults-total}
-use Rattle.model.proofs.Shapes.{shaped}
+use Rattle.model.proofs.Shapes.{few-faults}
 use Rattle.model.proofs.Look.{look}
 use Rattle.model.proofs.Steps.{removed-total}
 use Rattle.model.proofs.Cases.{faults-fit, enter-cases, file-cases}
@@ -28,16 +29,16 @@ use Rattle.model.proofs.Deeds.{lines-store}
 -- the job by its tests, whatever is to be shown of it
 module _ (w scratch text out : List ℕ) (t : Tally) (P : Finished → Type 0) where
   pub job-cases :
-      (length scratch < scratchNeed → P (turnedAway 11 w out scratch t))
-      → (scratchNeed ≤ length scratch → mostText < length text → P (turnedAway 13 w out (cleaned scratch) t))
-      → (scratchNeed ≤ length scratch → length text ≤ mostText → sound w ≡ false → P (turnedAway 3 w out (cleaned scratch) t))
-      → (scratchNeed ≤ length scratch → length text ≤ mostText → sound w ≡ true → P (jobIf true w scratch text out t))
+      (length scratch < need (shapeOf w) → P (turnedAway 11 w out scratch t))
+      → (need (shapeOf w) ≤ length scratch → mostText < length text → P (turnedAway 13 w out (cleaned (need (shapeOf w)) scratch) t))
+      → (need (shapeOf w) ≤ length scratch → length text ≤ mostText → sound w ≡ false → P (turnedAway 3 w out (cleaned (need (shapeOf w)) scratch) t))
+      → (need (shapeOf w) ≤ length scratch → length text ≤ mostText → sound w ≡ true → P (jobIf true w scratch text out t))
       → P (job w scratch text out t)
   unfolding job
   job-cases short long unsound lines =
-      by-cases (ltb (length scratch) scratchNeed)
-      (λ e. rw e (short (ltb-true (length scratch) scratchNeed e)))
-      (λ e. let a = ltb-false (length scratch) scratchNeed e in
+      by-cases (ltb (length scratch) (need (shapeOf w)))
+      (λ e. rw e (short (ltb-true (length scratch) (need (shapeOf w)) e)))
+      (λ e. let a = ltb-false (length scratch) (need (shapeOf w)) e in
       rw e (by-cases (ltb mostText (length text))
       (λ f. rw f (long a (ltb-true mostText (length text) f)))
       (λ f. let b = ltb-false mostText (length text) f in
@@ -84,13 +85,13 @@ lines-fit (x ∷ xs) room r h =
 
 -- a job that comes to its lines
 abbrev pub Reached : List ℕ → List ℕ → List ℕ → Type 0
-Reached w scratch text = (scratchNeed ≤ length scratch) × (length text ≤ mostText) × (sound w ≡ true)
+Reached w scratch text = (need (shapeOf w) ≤ length scratch) × (length text ≤ mostText) × (sound w ≡ true)
 
 -- the table of numbers for a job
 pub record JobNumbers (w scratch text out : List ℕ) (j : Finished) : Type 0 where
-  pub short : (j .number ≡ 11) ↔ (length scratch < scratchNeed)
-  pub long : (j .number ≡ 13) ↔ ((scratchNeed ≤ length scratch) × (mostText < length text))
-  pub unsound : (j .number ≡ 3) ↔ ((scratchNeed ≤ length scratch) × (length text ≤ mostText) × (sound w ≡ false))
+  pub short : (j .number ≡ 11) ↔ (length scratch < need (shapeOf w))
+  pub long : (j .number ≡ 13) ↔ ((need (shapeOf w) ≤ length scratch) × (mostText < length text))
+  pub unsound : (j .number ≡ 3) ↔ ((need (shapeOf w) ≤ length scratch) × (length text ≤ mostText) × (sound w ≡ false))
   pub stopped : (j .number ≡ 10) ↔ (Reached w scratch text × (j .lines < length (linesOf text)))
   pub done : (j .number ≡ 0) ↔ (Reached w scratch text × (j .lines ≡ length (linesOf text)))
   -- it stops before a line whose answer with its LF exceeds the output left
@@ -100,7 +101,7 @@ module _ (w scratch text out : List ℕ) (t : Tally) where
   abbrev ran : Run
   ran = runLines (linesOf text) (length out) (started (decode w) t)
 
-  lines-numbers : scratchNeed ≤ length scratch → length text ≤ mostText → (ok : sound w ≡ true) → JobNumbers w scratch text out (jobIf true w scratch text out t)
+  lines-numbers : need (shapeOf w) ≤ length scratch → length text ≤ mostText → (ok : sound w ≡ true) → JobNumbers w scratch text out (jobIf true w scratch text out t)
   lines-numbers a b ok = go (lines-end (linesOf text) (length out) (started (decode w) t) refl)
     where
       go : AllAnswered (linesOf text) (started (decode w) t) ran ⊎ Stopped (linesOf text) (length out) (started (decode w) t) ran → JobNumbers w scratch text out (jobIf true w scratch text out t)
@@ -153,11 +154,11 @@ module _ (w scratch text out : List ℕ) (t : Tally) where
       lines-numbers
 
   -- under 11 the scratch is untouched; else its first bytes end zero and the rest stays, whatever the number
-  pub job-scratch : job w scratch text out t .scratch ≡ cond (ltb (length scratch) scratchNeed) scratch (cleaned scratch)
+  pub job-scratch : job w scratch text out t .scratch ≡ cond (ltb (length scratch) (need (shapeOf w))) scratch (cleaned (need (shapeOf w)) scratch)
   job-scratch =
-      job-cases w scratch text out t (λ j. j .scratch ≡ cond (ltb (length scratch) scratchNeed) scratch (cleaned scratch))
-      (λ a. rw (lt-ltb (length scratch) scratchNeed a)) (λ a b. rw (le-ltb (length scratch) scratchNeed a))
-      (λ a b c. rw (le-ltb (length scratch) scratchNeed a)) (λ a b c. rw (le-ltb (length scratch) scratchNeed a))
+      job-cases w scratch text out t (λ j. j .scratch ≡ cond (ltb (length scratch) (need (shapeOf w))) scratch (cleaned (need (shapeOf w)) scratch))
+      (λ a. rw (lt-ltb (length scratch) (need (shapeOf w)) a)) (λ a b. rw (le-ltb (length scratch) (need (shapeOf w)) a))
+      (λ a b c. rw (le-ltb (length scratch) (need (shapeOf w)) a)) (λ a b c. rw (le-ltb (length scratch) (need (shapeOf w)) a))
 
   -- no more lines are done than there are
   pub lines-few : job w scratch text out t .lines ≤ length (linesOf text)
@@ -167,14 +168,14 @@ module _ (w scratch text out : List ℕ) (t : Tally) where
 
 -- lines
 
--- a history has at most as many faults as a store can hold
-history-fits : (s : Store) → Good s → (y : List ℕ) → length (historyIn s y) ≤ mostFaults
+-- a history has at most as many faults as a store of any format can hold
+history-fits : (s : Store) → Good s → (y : List ℕ) → length (historyIn s y) ≤ faultsEver
 history-fits s g y =
-    omega (arith, faults-total (look s y), faults-total (cards s), removed-total s (g .fair) y filings, faults-fit s g, shaped (s .shape) (g .fair .shape) .mostFaults)
+    omega (arith, faults-total (look s y), faults-total (cards s), removed-total s (g .fair) y filings, faults-fit s g, few-faults (s .shape) (g .fair .shape))
 
-pub enough-long : length enough ≡ 2 * mostFaults
+pub enough-long : length enough ≡ 2 * faultsEver
 unfolding enough
-enough-long = length-replicate {A = ℕ} (2 * mostFaults) 0
+enough-long = length-replicate {A = ℕ} (2 * faultsEver) 0
 
 pub record LineNumbers (l : Line) (k : ℕ) : Type 0 where
   pub formless : (k ≡ 12) ↔ (l ≡ bad)

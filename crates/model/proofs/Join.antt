@@ -7,7 +7,7 @@ use mathlib.Core.List.{List, [], _∷_, _++_, map, append-nil}
 use mathlib.Core.Bool.{Bool, true, false, cond}
 use Prim.Native.Nat.{ℕ, zero, suc, _+_, _-_, _/_, _%_, _≤_, _<_}
 use native.Mathlib.Omega.{arith}
-use lib.Dec.{eqb, ltb, lit<}
+use lib.Dec.{eqb, ltb}
 use lib.ListN.{length, getD, set, take, length-set, length-map, List·getD-map, List·getD-eq-default}
 use lib.Seq.{getD-set-same, getD-set-other}
 use borrow.Author.Tests.{eqb-true, eqb-false, ltb-true, ltb-false}
@@ -17,10 +17,9 @@ use Rattle.rules.proofs.States.{state-of}
 use Rattle.rules.proofs.Loads.{contracts-true}
 use Rattle.rules.proofs.Addresses.{shrink-ok, shrink-count}
 use Rattle.model.specs.Lists.{join, total}
-use Rattle.model.specs.Shape.{segmentSize, entries, topOf}
+use Rattle.model.specs.Shape.{segmentSize, topOf, cardWidth}
 use Rattle.model.specs.Model.{Store, Card, cards, held, faultsHeld, size, under, bucket, cellsOf, contract, shrunk}
-use Rattle.model.specs.Layout.{maxpAt, pAt, heldAt, toNext}
-use Rattle.model.specs.Layout.{Cell, headOr, chained, cardWidth, faultWidth, directoryAt, segmentsAt, cardsAt, faultsAt, cardCell, freeCell, cardChains, faultChains, header, directory, segments, front, first, last}
+use Rattle.model.specs.Layout.{maxpAt, pAt, heldAt, toNext, Cell, headOr, chained, faultWidth, directoryAt, segmentsAt, cardsAt, faultsAt, cardCell, freeCell, cardChains, faultChains, header, directory, segments, front, first, last}
 use Rattle.model.specs.Meaning.{bucketsIn, bucketWord, bucketCells}
 use Rattle.model.specs.Words.{cardAt, linkAt, closeWords, joinWords, shrinkWords}
 use Rattle.model.proofs.Lists.{getD-front, map-append, Every, every-append, every-join, join-every, every-set}

@@ -7,11 +7,11 @@ use mathlib.Core.Path.{_≡_, refl, sym, ap, _∙_, subst}
 use mathlib.Core.Logic.{inl, inr, ⊎-elim, _↔_}
 use mathlib.Core.List.{List, [], _∷_, _++_, map, map-map}
 use mathlib.Core.Bool.{Bool, true, cond}
-use Prim.Native.Nat.{ℕ, zero, suc, _+_, _-_, _*_, _/_, _≤_, _<_}
+use Prim.Native.Nat.{ℕ, zero, suc, _+_, _-_, _*_, _≤_, _<_}
 use native.Mathlib.Nat.{zero-add}
 use native.Mathlib.Omega.{arith}
 use lib.Dec.{eqb, ltb, lit<}
-use lib.ListN.{length, getD, take, drop, length-append, length-map, length-drop, List·getD-append, List·getD-map, List·getD-eq-default, length-replicate}
+use lib.ListN.{length, getD, take, drop, length-append, length-map, length-drop, List·getD-append, List·getD-map, List·getD-eq-default}
 use lib.Seq.{getD-append-add, take-add, ext-getD, length-take-le, getD-take, getD-drop, drop-drop}
 use borrow.Author.Tests.{eq-eqb, eqb-true, lt-ltb, le-ltb}
 use Rattle.rules.specs.Code.{codeOf}
@@ -19,10 +19,9 @@ use Rattle.rules.specs.Table.{least, addressOf}
 use Rattle.rules.proofs.Tests.{both, all-of, eq?, lt?}
 use Rattle.model.specs.Lists.{all, same, join, from, total}
 use Rattle.model.specs.Serial.{serialOk, validFault}
-use Rattle.model.specs.Shape.{Shape, segmentSize, entries, topOf}
+use Rattle.model.specs.Shape.{Shape, segmentSize, entries, topOf, cardWidth}
 use Rattle.model.specs.Model.{Card, cards, histories, held, faultsHeld, bucket, faultCellsOf}
-use Rattle.model.specs.Layout.{formatAt, limitAt, faultLimitAt, maxpAt, pAt, heldAt, faultsHeldAt, freeAt, freeFaultsAt, directoryOffsetAt, segmentsOffsetAt, cardsOffsetAt, faultsOffsetAt, wholeLengthAt, boundsAt, ruleAt, toLength, toSerial, toFirst, toLast, toCount, toDay, toCode}
-use Rattle.model.specs.Layout.{Cell, headOr, chained, cardWidth, faultWidth, directoryAt, segmentsAt, cardCell, faultCell, freeCell, cardChains, faultChains, cardsAt, faultsAt, lengthFor, header, directory, segments, front, first, last, packed, follow, cardWord, faultWord, readFault, readCard, readChain, shapeOf, decodeAs, decode, goodCard, loadOk, sound}
+use Rattle.model.specs.Layout.{formatAt, limitAt, faultLimitAt, maxpAt, pAt, heldAt, faultsHeldAt, freeAt, freeFaultsAt, directoryOffsetAt, segmentsOffsetAt, cardsOffsetAt, faultsOffsetAt, wholeLengthAt, boundsAt, ruleAt, toLength, toSerial, toFirst, toLast, toCount, toDay, toCode, Cell, headOr, chained, faultWidth, directoryAt, segmentsAt, cardCell, faultCell, freeCell, cardChains, faultChains, cardsAt, faultsAt, lengthFor, header, directory, segments, front, first, last, packed, follow, cardWord, faultWord, readFault, readCard, readChain, shapeOf, decodeAs, decode, goodCard, loadOk, sound}
 use Rattle.model.specs.Meaning.{In, ExactlyOnce, Leads, bucketsIn, bucketWord, nextCard, nextFault, bucketCells, freeCells, historyCells, freeFaultCells, heldCells, filedCells, bytesIn, serialIn, SoundAs, Sound}
 use Rattle.model.proofs.Lists.{same-refl, same-is, Every, every-at, at-every, every-map, map-every, map-append}
 use Rattle.model.proofs.Tables.{length-table, table-at, table-from, take-table}

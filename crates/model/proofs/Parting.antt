@@ -5,16 +5,15 @@
 use mathlib.Core.Path.{_≡_, refl, sym, ap, _∙_, subst}
 use mathlib.Core.Logic.{_⊎_, inl, inr, ⊎-elim}
 use mathlib.Core.List.{List, [], _∷_, _++_}
-use Prim.Native.Nat.{ℕ, _+_, _/_, _≤_, _<_}
+use Prim.Native.Nat.{ℕ, _+_, _≤_, _<_}
 use native.Mathlib.Omega.{arith}
 use lib.Dec.{eqb, lit<}
 use lib.ListN.{length, getD, set, length-set}
 use lib.Seq.{getD-set-same, getD-set-other}
 use Rattle.rules.proofs.Tests.{eq?}
 use Rattle.model.specs.Lists.{join}
-use Rattle.model.specs.Shape.{Shape, entries, topOf}
-use Rattle.model.specs.Layout.{toNext}
-use Rattle.model.specs.Layout.{Cell, headOr, chained, atsOf, cellAt, cardWidth, segmentsAt, cardsAt, last}
+use Rattle.model.specs.Shape.{Shape, entries, topOf, cardWidth}
+use Rattle.model.specs.Layout.{toNext, Cell, headOr, chained, atsOf, cellAt, segmentsAt, cardsAt, last}
 use Rattle.model.specs.Words.{cardAt, linkAt}
 use Rattle.model.proofs.Sums.{bit, bit-same, total-append}
 use Rattle.model.proofs.Shapes.{in-card}

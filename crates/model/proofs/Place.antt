@@ -12,8 +12,7 @@ use lib.Seq.{sets}
 use Rattle.model.specs.Lists.{join}
 use Rattle.model.specs.Serial.{serialOk}
 use Rattle.model.specs.Model.{Store, Card, cards, held, faultsHeld, addressIn, chainFor, cellsOf, newCard, placed}
-use Rattle.model.specs.Layout.{heldAt, freeAt, toNext}
-use Rattle.model.specs.Layout.{Cell, cardWidth, faultWidth, segmentsAt, cardsAt, faultsAt, cardCell, freeCell, cardChains, faultChains, header, directory, segments, front, first, last, cardWord}
+use Rattle.model.specs.Layout.{heldAt, freeAt, toNext, Cell, faultWidth, segmentsAt, cardsAt, faultsAt, cardCell, freeCell, cardChains, faultChains, header, directory, segments, front, first, last, cardWord}
 use Rattle.model.specs.Words.{cardAt, linkAt, newWords, placeWords}
 use Rattle.model.proofs.Lists.{map-append, map-set, every-set, every-append, every-join}
 use Rattle.model.proofs.Sums.{length-total}
@@ -29,6 +28,7 @@ use Rattle.model.proofs.Readings.{held-at, free-at}
 use Rattle.model.proofs.Look.{look, address-in}
 use Rattle.model.proofs.Steps.{placed-total, placed-fair}
 use Rattle.model.proofs.Whole.{Whole, rep-whole, whole-rep, each-apart, front-write, card-fill, card-chain, card-behind, cards-fit, fronted, fronted-bucket, segments-chain, segments-kept, Recorded, held-recorded, recorded-held, taken-in, taken-none, taken-apart, taken-rest, taken-next, ends, link-none, link-last}
+use Rattle.model.specs.Shape.{cardWidth}
 
 module _ (w : List ℕ) (s : Store) (r : Rep w s) (y : List ℕ) (v : serialOk y ≡ true) (none : look s y ≡ []) (room : held s < s .shape .limit) where
   abbrev a : ℕ

@@ -8,10 +8,9 @@ use mathlib.Core.Bool.{true}
 use lib.Dec.{lit<}
 use lib.ListN.{length, getD}
 use Rattle.model.specs.Serial.{serialOk}
-use Rattle.model.specs.Shape.{Shape}
+use Rattle.model.specs.Shape.{Shape, cardWidth}
 use Rattle.model.specs.Model.{Store, Card, cards, held, faultsHeld, bucket, cellsOf, faultCellsOf}
-use Rattle.model.specs.Layout.{maxpAt, pAt, heldAt, faultsHeldAt, freeAt, freeFaultsAt, toNext, toLength, toSerial, toFirst, toLast, toCount}
-use Rattle.model.specs.Layout.{Cell, headOr, chained, cardWidth, segmentsAt, cardsAt, cardCell, header, front, first, last, cardWord, readCard, readChain}
+use Rattle.model.specs.Layout.{maxpAt, pAt, heldAt, faultsHeldAt, freeAt, freeFaultsAt, toNext, toLength, toSerial, toFirst, toLast, toCount, Cell, headOr, chained, segmentsAt, cardsAt, cardCell, header, front, first, last, cardWord, readCard, readChain}
 use Rattle.model.specs.Meaning.{bucketWord, bucketCells, serialIn, bytesIn}
 use Rattle.model.proofs.Lists.{map-append, Every}
 use Rattle.model.proofs.Chains.{Memory, Stands, Stand, stand-parts, chained-append}

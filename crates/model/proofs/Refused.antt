@@ -9,10 +9,11 @@ use native.Mathlib.Omega.{arith}
 use lib.Dec.{ltb}
 use lib.ListN.{length, take, length-append}
 use Rattle.rules.proofs.Tests.{by-cases}
-use Rattle.model.specs.Layout.{encode, decode, sound}
+use Rattle.model.specs.Shape.{need}
+use Rattle.model.specs.Layout.{shapeOf, encode, decode, sound}
 use Rattle.model.specs.Lists.{total}
 use Rattle.model.specs.Model.{Card, Store, cards}
-use Rattle.model.specs.Calls.{Terms, Step, scratchNeed, call, openCall}
+use Rattle.model.specs.Calls.{Terms, Step, admission, swept, call, openCall}
 use Rattle.model.specs.Runs.{Act, Act.enter, Act.file, Act.show, Act.withdraw, roomOf, perform, outcome}
 use Rattle.model.specs.Job.{Tally, Finished, linesOf, started, job}
 use Rattle.model.proofs.Sums.{length-total}
@@ -46,9 +47,9 @@ refused-open w t = open-cases w t (λ r. (r .number ≡ 0 → ⊥) → r .words 
 
 pub refused-call : (w scratch : List ℕ) (a : Act) → (outcome w scratch a .answer .number ≡ 0 → ⊥)
     → (outcome w scratch a .words ≡ w) × (outcome w scratch a .room ≡ roomOf a)
-unfolding call
+unfolding call admission swept
 refused-call w scratch a =
-    by-cases (ltb (length scratch) scratchNeed)
+    by-cases (ltb (length scratch) (need (shapeOf w)))
     (λ e. rw e (λ h. (refl, refl)))
     (λ e. rw e (by-cases (sound w)
     (λ ok. rw ok (λ h. let g = sound-good w ok in let r = refused-act (decode w) (g .0) a h in (ap encode (r .0) ∙ g .1, r .1)))
@@ -83,9 +84,9 @@ done-act s g (withdraw bytes n room) c =
     (λ v l f z e. omega (arith, weigh one e, withdrawn-total s (g .fair) (take n bytes) one, length-total (look s (take n bytes)), l))
 
 pub done-changes : (w scratch : List ℕ) (a : Act) → Changing a → outcome w scratch a .answer .number ≡ 0 → outcome w scratch a .words ≡ w → ⊥
-unfolding call
+unfolding call admission swept
 done-changes w scratch a c =
-    by-cases (ltb (length scratch) scratchNeed)
+    by-cases (ltb (length scratch) (need (shapeOf w)))
     (λ e. rw e (λ z u. omega arith))
     (λ e. rw e (by-cases (sound w)
     (λ ok. let g = sound-good w ok .0 in

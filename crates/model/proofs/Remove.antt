@@ -6,14 +6,13 @@ use mathlib.Core.Logic.{_⊎_, inl, inr}
 use mathlib.Core.List.{List, [], _∷_, _++_, map, append-nil}
 use Prim.Native.Nat.{ℕ, suc, _+_, _-_, _≤_, _<_}
 use native.Mathlib.Omega.{arith}
-use lib.Dec.{eqb, lit<}
+use lib.Dec.{eqb}
 use lib.ListN.{length, getD, set, take, drop, replicate, length-map, length-append, length-replicate}
 use lib.Seq.{sets, set-getD}
 use borrow.Author.Tests.{ne-eqb}
 use Rattle.model.specs.Lists.{join, total}
 use Rattle.model.specs.Model.{Store, Card, Fault, cards, histories, held, faultsHeld, addressIn, chainFor, before, without, cellsOf, faultCellsOf, removed}
-use Rattle.model.specs.Layout.{heldAt, faultsHeldAt, freeAt, freeFaultsAt, toNext}
-use Rattle.model.specs.Layout.{Cell, headOr, chained, cardWidth, faultWidth, segmentsAt, cardsAt, faultsAt, cardCell, faultCell, freeCell, cardChains, faultChains, header, directory, segments, front, first, last}
+use Rattle.model.specs.Layout.{heldAt, faultsHeldAt, freeAt, freeFaultsAt, toNext, Cell, headOr, chained, faultWidth, segmentsAt, cardsAt, faultsAt, cardCell, faultCell, freeCell, cardChains, faultChains, header, directory, segments, front, first, last}
 use Rattle.model.specs.Words.{cardAt, faultAt, linkAt, clearWords, giveWords, removeWords}
 use Rattle.model.proofs.Lists.{map-append, map-set, Every, every-append, every-parts, at-every, every-map}
 use Rattle.model.proofs.Sums.{bit, bit-same, total-append, total-set, total-one, total-first, length-total}
@@ -25,13 +24,14 @@ use Rattle.model.proofs.Writes.{Apart, cell-here}
 use Rattle.model.proofs.Shapes.{width-least}
 use Rattle.model.proofs.Fair.{one, filings, faultIn, fault-cells, fault-count, faults-total}
 use Rattle.model.proofs.Rep.{directory-length, Rep, size-top}
-use Rattle.model.proofs.Decode.{limit-at, fault-limit-at, cards-at, head-cards, head-free}
+use Rattle.model.proofs.Decode.{cards-at, head-cards, head-free}
 use Rattle.model.proofs.Readings.{held-at, faults-held-at, free-at, free-faults-at, next-at, first-fault-at, last-fault-at, fault-count-at}
 use Rattle.model.proofs.Look.{look, address-in}
 use Rattle.model.proofs.Steps.{removed-total, removed-fair}
 use Rattle.model.proofs.Cut.{Present}
 use Rattle.model.proofs.Whole.{Whole, rep-whole, whole-rep, each-apart, apart-less, front-write, card-fill, card-chain, card-cut, cards-fit, fronted, fronted-bucket, segments-chain, segments-kept, historyOf, cards-joined, history-get, history-set, history-below, Recorded, recorded-held, ends, last-at, link-none, link-last}
 use Rattle.model.proofs.Give.{cleared, joined}
+use Rattle.model.specs.Shape.{cardWidth}
 
 module _ (w : List ℕ) (s : Store) (r : Rep w s) (y : List ℕ) (p : Present y (chainFor s y)) where
   abbrev a : ℕ

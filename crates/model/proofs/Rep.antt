@@ -12,9 +12,9 @@ use lib.ListN.{length, getD, take, length-append, List·getD-append, length-map,
 use lib.Seq.{getD-append-add, take-at, getD-take, ext-getD}
 use Rattle.rules.proofs.Tests.{lt?}
 use Rattle.rules.proofs.States.{state-of}
-use Rattle.model.specs.Shape.{Shape, segmentSize, entries, topOf}
+use Rattle.model.specs.Shape.{Shape, entries, topOf, cardWidth}
 use Rattle.model.specs.Model.{Store, Card, Fault, cards, size}
-use Rattle.model.specs.Layout.{part, cardWidth, faultWidth, cardCell, faultCell, freeCell, cardChains, faultChains, cardsAt, faultsAt, lengthFor, directoryAt, header, directory, segments, front, encode}
+use Rattle.model.specs.Layout.{part, faultWidth, cardCell, faultCell, freeCell, cardChains, faultChains, cardsAt, faultsAt, lengthFor, directoryAt, header, directory, segments, front, encode}
 use Rattle.model.proofs.Part.{Held, held-same, held-move, Wide, part-length, part-held}
 use Rattle.model.proofs.Tables.{length-table}
 use Rattle.model.proofs.Shapes.{width-least, card-fills}

@@ -16,10 +16,9 @@ use Rattle.rules.proofs.Tests.{by-cases, both}
 use Rattle.rules.proofs.States.{state-of}
 use Rattle.model.specs.Lists.{all, keep, join, total}
 use Rattle.model.specs.Serial.{serialOk}
-use Rattle.model.specs.Shape.{Shape, segmentSize, entries, topOf}
+use Rattle.model.specs.Shape.{Shape, segmentSize, entries, topOf, cardWidth}
 use Rattle.model.specs.Model.{Store, Card, cards, held, faultsHeld, size, over, bucket, cellsOf, moves, moving, staying, split, grown}
-use Rattle.model.specs.Layout.{maxpAt, pAt, heldAt, toNext}
-use Rattle.model.specs.Layout.{Cell, headOr, chained, atsOf, cardWidth, faultWidth, directoryAt, segmentsAt, cardsAt, faultsAt, cardCell, freeCell, cardChains, faultChains, header, directory, segments, front, first, last, cardWord, goodCard}
+use Rattle.model.specs.Layout.{maxpAt, pAt, heldAt, toNext, Cell, headOr, chained, atsOf, faultWidth, directoryAt, segmentsAt, cardsAt, faultsAt, cardCell, freeCell, cardChains, faultChains, header, directory, segments, front, first, last, cardWord, goodCard}
 use Rattle.model.specs.Meaning.{bucketsIn, bucketWord}
 use Rattle.model.specs.Words.{linkAt, openWords, movesAt, partWords, splitWords, growWords}
 use Rattle.model.proofs.Lists.{join-append, map-append, Every, every-append, every-keep, every-join, every-set}

@@ -10,14 +10,14 @@ use Prim.Native.Nat.{ℕ, zero, suc, _+_, _-_, _≤_, _<_}
 use native.Mathlib.Nat.{zero-add}
 use native.Mathlib.Omega.{arith}
 use lib.Dec.{eqb}
-use lib.ListN.{length, getD, replicate, length-replicate, getD-replicate}
+use lib.ListN.{length, getD, getD-replicate}
 use borrow.Author.Tests.{eqb-true, eq-eqb, ne-eqb}
 use Rattle.rules.proofs.Tests.{by-cases, both, all-of, eq?, lt?}
 use Rattle.model.specs.Lists.{all, keep, from, join, total}
 use Rattle.model.specs.Layout.{Cell, headOr, chained, first, freeCell, follow}
 use Rattle.model.specs.Meaning.{times, In, ExactlyOnce, Leads}
 use Rattle.model.proofs.Lists.{length-none, keep-keep, keep-drop, Every}
-use Rattle.model.proofs.Tables.{length-table, table-at, table-from}
+use Rattle.model.proofs.Tables.{length-table, table-at}
 use Rattle.model.proofs.Sums.{bit, count, bit-le, bit-same, bit-other, total-join, total-one, total-keep}
 use Rattle.model.proofs.Each.{many, Each, cover, count-cover, count-full}
 use Rattle.model.proofs.Chains.{Memory, Stand}

@@ -6,17 +6,16 @@
 use mathlib.Core.Path.{_≡_, refl, sym, ap, _∙_, subst}
 use mathlib.Core.Logic.{_⊎_, inl, inr}
 use mathlib.Core.List.{List, [], _∷_, _++_, map, append-nil, append-assoc}
-use Prim.Native.Nat.{ℕ, zero, suc, _+_, _-_, _*_, _/_, _≤_, _<_}
+use Prim.Native.Nat.{ℕ, zero, suc, _+_, _-_, _*_, _≤_, _<_}
 use native.Mathlib.Omega.{arith}
 use lib.Dec.{eqb, lit<}
 use lib.ListN.{length, getD, set, take, drop, replicate, length-set, length-map, length-append}
 use lib.Seq.{drop-cons, getD-at, set-at, map-set-same, set-append-left, take-set-lt, take-set-le, getD-set-other, sets, length-sets}
 use borrow.Author.Tests.{ne-eqb}
 use Rattle.model.specs.Lists.{join, total}
-use Rattle.model.specs.Shape.{Shape, entries, topOf}
+use Rattle.model.specs.Shape.{Shape, entries, topOf, cardWidth}
 use Rattle.model.specs.Model.{Store, Card, cards, size, bucket, withChain, cellsOf}
-use Rattle.model.specs.Layout.{toNext}
-use Rattle.model.specs.Layout.{Cell, headOr, chained, cellAt, cardWidth, faultWidth, cardsAt, faultsAt, lengthFor, boundsWord, ruleWord, directoryAt, segmentsAt, first, last, faultCell, freeCell, front, segments, cardChains, faultChains}
+use Rattle.model.specs.Layout.{toNext, Cell, headOr, chained, cellAt, faultWidth, cardsAt, faultsAt, lengthFor, boundsWord, ruleWord, directoryAt, segmentsAt, first, last, faultCell, freeCell, front, segments, cardChains, faultChains}
 use Rattle.model.specs.Words.{cardAt, linkAt}
 use Rattle.model.proofs.Lists.{join-set, map-append, map-set, set-append-add, Every, every-at, at-every, every-map, map-every}
 use Rattle.model.proofs.Sums.{bit, bit-same, total-append, total-set, total-one}

@@ -1,13 +1,13 @@
 -- What each call answers and leaves, for every input: a function of all that it is given. The order of refusals is read from top to bottom.
 use Prim.Native.Nat.{ℕ, _+_, _*_}
 use mathlib.Core.List.{List, [], _∷_, _++_}
-use mathlib.Core.Bool.{Bool, true, false, not, cond}
+use mathlib.Core.Bool.{not, cond}
 use lib.Dec.{ltb, eqb}
 use lib.ListN.{length, take, drop, replicate}
-use Rattle.model.specs.Shape.{Shape}
+use Rattle.model.specs.Shape.{Shape, need}
 use Rattle.model.specs.Serial.{validSerial, validFault}
 use Rattle.model.specs.Model.{Fault, Store, held, faultsHeld, chainFor, found, comparisons, placed, removed, splitScan, contractScan, fresh, entered, filed, historyIn, withdrawn}
-use Rattle.model.specs.Layout.{firstUpper, firstLower, limitsOk, lengthFor, encode, decode, sound}
+use Rattle.model.specs.Layout.{firstUpper, firstLower, limitsOk, lengthFor, encode, decode, sound, shapeOf}
 
 pub record Answer : Type 0 where
   pub number : ℕ
@@ -30,13 +30,9 @@ gives n k scan f = record { number = n; comparisons = k; scanned = scan; faults 
 abbrev pub refused : ℕ → Answer
 refused n = gives n 0 0 0
 
--- one bit a cell: 1,024 card cells and 2,048 fault cells, in 384 bytes
-unfoldable pub scratchNeed : ℕ
-scratchNeed = 384
-
--- its first bytes end zero, the rest as they were
-unfoldable pub cleaned : List ℕ → List ℕ
-cleaned scratch = replicate scratchNeed 0 ++ drop scratchNeed scratch
+-- scratch with its first n bytes zero, the rest as they were
+unfoldable pub cleaned : ℕ → List ℕ → List ℕ
+cleaned n scratch = replicate n 0 ++ drop n scratch
 
 -- day, code per fault in filing order
 abbrev pub pairs : List Fault → List ℕ
@@ -99,31 +95,21 @@ withdrawStep s bytes n room =
     (cond (ltb (length room) (2 * length h)) (stays (gives 10 k 0 (length h)) s room)
     (stays (gives 0 k (contractScan (removed s serial)) (length h)) (withdrawn s serial) (written h room))))
 
--- a call on words: scratch first, then soundness, then the step
-abbrev pub callIf : Bool → (Store → Step) → List ℕ → List ℕ → List ℕ → Outcome
-callIf false step w scratch room = record { answer = refused 3; words = w; room = room; scratch = cleaned scratch }
-callIf true step w scratch room =
-    let r = step (decode w) in
-    record { answer = r .answer; words = encode (r .store); room = r .room; scratch = cleaned scratch }
+-- what every call asks before its step: 11 where the scratch is shorter than the store's shape needs, then 3 where the words are not sound, else 0
+unfoldable pub admission : List ℕ → List ℕ → ℕ
+admission w scratch = cond (ltb (length scratch) (need (shapeOf w))) 11 (cond (sound w) 0 3)
 
+-- and what it leaves in the scratch: under 11 all as it was, else its first bytes zero
+unfoldable pub swept : List ℕ → List ℕ → List ℕ
+swept w scratch = cond (ltb (length scratch) (need (shapeOf w))) scratch (cleaned (need (shapeOf w)) scratch)
+
+-- a call on words: once admitted, the step on the store that they stand for; else words and room as they were
 unfoldable pub call : (Store → Step) → List ℕ → List ℕ → List ℕ → Outcome
 call step w scratch room =
-    cond (ltb (length scratch) scratchNeed) (record { answer = refused 11; words = w; room = room; scratch = scratch })
-    (callIf (sound w) step w scratch room)
-
--- the entry points
-
-abbrev pub enterCall : List ℕ → List ℕ → List ℕ → ℕ → Outcome
-enterCall w scratch bytes n = call (λ s. enterStep s bytes n) w scratch []
-
-abbrev pub fileCall : List ℕ → List ℕ → List ℕ → ℕ → ℕ → ℕ → Outcome
-fileCall w scratch bytes n day code = call (λ s. fileStep s bytes n day code) w scratch []
-
-abbrev pub showCall : List ℕ → List ℕ → List ℕ → ℕ → List ℕ → Outcome
-showCall w scratch bytes n room = call (λ s. showStep s bytes n room) w scratch room
-
-abbrev pub withdrawCall : List ℕ → List ℕ → List ℕ → ℕ → List ℕ → Outcome
-withdrawCall w scratch bytes n room = call (λ s. withdrawStep s bytes n room) w scratch room
+    let k = admission w scratch in
+    let r = step (decode w) in
+    let done : Outcome = record { answer = r .answer; words = encode (r .store); room = r .room; scratch = swept w scratch } in
+    cond (eqb k 0) done (record { answer = refused k; words = w; room = room; scratch = swept w scratch })
 
 -- what Open is asked for, and the shape that it makes of it
 pub record Terms : Type 0 where
@@ -140,6 +126,6 @@ pub record Opened : Type 0 where
 
 unfoldable pub openCall : List ℕ → Terms → Opened
 openCall w t =
-    cond (not (limitsOk (t .cards) (t .faults))) (record { number = 1; words = w })
+    cond (not (limitsOk (shapeFor t))) (record { number = 1; words = w })
     (cond (not (eqb (length w) (lengthFor (shapeFor t)))) (record { number = 2; words = w })
     (record { number = 0; words = encode (fresh (shapeFor t)) }))

@@ -3,8 +3,9 @@
 use Prim.Native.Nat.{ℕ}
 use mathlib.Core.List.{List, [], _∷_, _++_, map}
 use lib.ListN.{length, take, replicate}
-use Rattle.model.specs.Layout.{decode}
-use Rattle.model.specs.Calls.{Step, refused, stays, scratchNeed}
+use Rattle.model.specs.Shape.{Shape, need}
+use Rattle.model.specs.Layout.{shapeOf, decode}
+use Rattle.model.specs.Calls.{Step, refused, stays}
 use Rattle.model.specs.Runs.{Act, Call, Call.acting, outcome, wordsAfter, run}
 use Rattle.model.specs.Job.{Line, linesOf, padded, lineOf, enough, answerText, Tally, job}
 
@@ -16,22 +17,22 @@ actsOf (Line.show f) = Act.show (padded f) (length f) enough ∷ []
 actsOf (Line.withdraw f) = Act.withdraw (padded f) (length f) enough ∷ []
 actsOf (Line.file f day code) = Act.file (padded f) (length f) day code ∷ []
 
--- scratch as long as a call asks for
-unfoldable pub tidy : List ℕ
-tidy = replicate scratchNeed 0
+-- scratch as long as a call on a store of this shape asks for
+unfoldable pub tidy : Shape → List ℕ
+tidy sh = replicate (need sh) 0
 
--- the calls of a line, given as its bytes, and of several lines
-abbrev pub callsBy : List ℕ → List Call
-callsBy x = map (acting tidy) (actsOf (lineOf x))
+-- the calls of a line, given as its bytes, and of several lines, on a store of this shape
+abbrev pub callsBy : Shape → List ℕ → List Call
+callsBy sh x = map (acting (tidy sh)) (actsOf (lineOf x))
 
-abbrev pub callsOf : List (List ℕ) → List Call
-callsOf [] = []
-callsOf (x ∷ xs) = callsBy x ++ callsOf xs
+abbrev pub callsOf : Shape → List (List ℕ) → List Call
+callsOf sh [] = []
+callsOf sh (x ∷ xs) = callsBy sh x ++ callsOf sh xs
 
 -- what a line gives on the words w: 12 if its form is bad, else what its call gives
 abbrev pub stepBy : List ℕ → List Act → Step
 stepBy w [] = stays (refused 12) (decode w) []
-stepBy w (a ∷ more) = let o = outcome w tidy a in record { answer = o .answer; store = decode (o .words); room = o .room }
+stepBy w (a ∷ more) = let o = outcome w (tidy (shapeOf w)) a in record { answer = o .answer; store = decode (o .words); room = o .room }
 
 -- and as text
 abbrev pub saidBy : List ℕ → List ℕ → List ℕ
@@ -39,7 +40,7 @@ saidBy w x = answerText (lineOf x) (stepBy w (actsOf (lineOf x)))
 
 abbrev pub said : List ℕ → List (List ℕ) → List ℕ
 said w [] = []
-said w (x ∷ xs) = saidBy w x ++ said (run w (callsBy x)) xs
+said w (x ∷ xs) = saidBy w x ++ said (run w (callsBy (shapeOf w) x)) xs
 
 -- what is done to a store from outside: a call, or a job with its scratch, text, output and tally
 pub data Deed : Type 0 where
@@ -62,7 +63,7 @@ answeredLines w scratch text out t = take (job w scratch text out t .lines) (lin
 -- the calls that it comes to
 abbrev pub callsIn : List ℕ → Deed → List Call
 callsIn w (calling c) = c ∷ []
-callsIn w (working scratch text out t) = callsOf (answeredLines w scratch text out t)
+callsIn w (working scratch text out t) = callsOf (shapeOf w) (answeredLines w scratch text out t)
 
 abbrev pub callsInAll : List ℕ → List Deed → List Call
 callsInAll w [] = []

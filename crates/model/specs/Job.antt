@@ -7,8 +7,9 @@ use lib.ListN.{length, take, drop, replicate}
 use Rattle.model.specs.Lists.{between, all, same}
 use Rattle.model.specs.Serial.{mostBytes}
 use Rattle.model.specs.Model.{Store, size}
-use Rattle.model.specs.Layout.{mostFaults, encode, decode, sound}
-use Rattle.model.specs.Calls.{Answer, Step, refused, cleaned, scratchNeed, stays, enterStep, fileStep, showStep, withdrawStep}
+use Rattle.model.specs.Shape.{faultsEver, need}
+use Rattle.model.specs.Layout.{shapeOf, encode, decode, sound}
+use Rattle.model.specs.Calls.{Answer, Step, refused, cleaned, stays, enterStep, fileStep, showStep, withdrawStep}
 
 -- the fields between separators; there is always one
 unfoldable pub onto : ℕ → List (List ℕ) → List (List ℕ)
@@ -66,9 +67,9 @@ fromFields (a ∷ b ∷ c ∷ d ∷ e ∷ fs) = bad
 unfoldable pub lineOf : List ℕ → Line
 lineOf l = cond (ltb 64 (length l)) bad (fromFields (fields 32 l))
 
--- the room that a line is given: two words for each fault that a store can hold, never too little
+-- the room that a line is given: two words for each fault that a store of any format can hold, never too little
 unfoldable pub enough : List ℕ
-enough = replicate (2 * mostFaults) 0
+enough = replicate (2 * faultsEver) 0
 
 unfoldable pub stepOf : Store → Line → Step
 stepOf s bad = stays (refused 12) s []
@@ -181,7 +182,7 @@ abbrev pub started : Store → Tally → Run
 started s t = record { number = 0; lines = 0; text = []; store = s; tally = t }
 
 abbrev pub jobIf : Bool → List ℕ → List ℕ → List ℕ → List ℕ → Tally → Finished
-jobIf false w scratch text out t = turnedAway 3 w out (cleaned scratch) t
+jobIf false w scratch text out t = turnedAway 3 w out (cleaned (need (shapeOf w)) scratch) t
 jobIf true w scratch text out t =
     let r = runLines (linesOf text) (length out) (started (decode w) t) in
     record {
@@ -190,7 +191,7 @@ jobIf true w scratch text out t =
       bytes = length (r .text);
       words = encode (r .store);
       out = r .text ++ drop (length (r .text)) out;
-      scratch = cleaned scratch;
+      scratch = cleaned (need (shapeOf w)) scratch;
       tally = r .tally;
     }
 
@@ -200,6 +201,6 @@ mostText = 16384
 -- first 11, then 13, then 3; soundness is tested once
 unfoldable pub job : List ℕ → List ℕ → List ℕ → List ℕ → Tally → Finished
 job w scratch text out t =
-    cond (ltb (length scratch) scratchNeed) (turnedAway 11 w out scratch t)
-    (cond (ltb mostText (length text)) (turnedAway 13 w out (cleaned scratch) t)
+    cond (ltb (length scratch) (need (shapeOf w))) (turnedAway 11 w out scratch t)
+    (cond (ltb mostText (length text)) (turnedAway 13 w out (cleaned (need (shapeOf w)) scratch) t)
     (jobIf (sound w) w scratch text out t))

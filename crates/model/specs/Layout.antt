@@ -8,7 +8,7 @@ use lib.ListN.{length, take, getD, replicate}
 use Rattle.rules.specs.Code.{codeOf}
 use Rattle.rules.specs.Table.{least, stateOk, addressOf}
 use Rattle.model.specs.Lists.{between, all, same, join, from, distinct}
-use Rattle.model.specs.Shape.{Shape, segmentSize, entries, topOf}
+use Rattle.model.specs.Shape.{Shape, segmentSize, entries, topOf, cardWidth, mostCards, mostFaults}
 use Rattle.model.specs.Serial.{serialOk, validFault}
 use Rattle.model.specs.Model.{Fault, Card, Store, cards, held, faultsHeld, size, bucket, cellsOf, faultCellsOf}
 
@@ -67,13 +67,6 @@ boundsAt = 14
 abbrev pub ruleAt : ℕ
 ruleAt = 15
 
--- the highest card limit and fault limit
-abbrev pub mostCards : ℕ
-mostCards = 1024
-
-abbrev pub mostFaults : ℕ
-mostFaults = 2048
-
 -- where the directory and the segments begin
 abbrev pub directoryAt : ℕ
 directoryAt = 16
@@ -81,10 +74,7 @@ directoryAt = 16
 abbrev pub segmentsAt : Shape → ℕ
 segmentsAt sh = directoryAt + entries sh
 
--- the words of a card cell and of a fault cell, and where cell 1 of each begins
-unfoldable pub cardWidth : Shape → ℕ
-cardWidth sh = 9
-
+-- the words of a fault cell, and where cell 1 of cards and of faults begins
 abbrev pub faultWidth : ℕ
 faultWidth = 3
 
@@ -140,9 +130,9 @@ toDay = 1
 abbrev pub toCode : ℕ
 toCode = 2
 
--- C is 1 to 1,024, F is 1 to 2,048
-unfoldable pub limitsOk : ℕ → ℕ → Bool
-limitsOk c f = between 1 mostCards c && between 1 mostFaults f
+-- C and F are 1 to the highest of the format
+unfoldable pub limitsOk : Shape → Bool
+limitsOk sh = between 1 (mostCards sh) (sh .limit) && between 1 (mostFaults sh) (sh .faultLimit)
 
 -- the formats: format 1 means the bounds 4 and 2, and has no word for them
 abbrev pub firstUpper : ℕ
@@ -162,7 +152,7 @@ ruleWord sh = 0
 
 -- the shapes that there are
 unfoldable pub shapeOk : Shape → Bool
-shapeOk sh = formatOk sh && limitsOk (sh .limit) (sh .faultLimit)
+shapeOk sh = formatOk sh && limitsOk sh
 
 -- the shape that words tell
 unfoldable pub shapeOf : List ℕ → Shape

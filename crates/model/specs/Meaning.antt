@@ -1,6 +1,6 @@
 -- What document 01 asks of a sound store, clause by clause, said of the words themselves: `Sound`, of the shape that the words tell. That it is what `sound` decides is
 -- `sound-means` in proofs/Meaning.antt.
-use Prim.Native.Nat.{ℕ, _+_, _*_, _/_, _≤_, _<_}
+use Prim.Native.Nat.{ℕ, _+_, _*_, _≤_, _<_}
 use mathlib.Core.Path.{_≡_}
 use mathlib.Core.Logic.{_⊎_}
 use mathlib.Core.List.{List, [], _∷_, _++_, map}
@@ -10,10 +10,10 @@ use lib.ListN.{length, take, drop, getD}
 use Rattle.rules.specs.Code.{codeOf}
 use Rattle.rules.specs.Table.{least, stateOk, addressOf}
 use Rattle.model.specs.Lists.{all, keep, join, from}
-use Rattle.model.specs.Shape.{Shape, segmentSize, entries, topOf}
+use Rattle.model.specs.Shape.{Shape, segmentSize, entries, topOf, cardWidth}
 use Rattle.model.specs.Serial.{serialOk, validFault}
 use Rattle.model.specs.Layout.{formatAt, limitAt, faultLimitAt, maxpAt, pAt, heldAt, faultsHeldAt, freeAt, freeFaultsAt, directoryOffsetAt, segmentsOffsetAt, cardsOffsetAt, faultsOffsetAt, wholeLengthAt, boundsAt, ruleAt, toNext, toLength, toSerial, toFirst, toLast, toCount, toDay, toCode}
-use Rattle.model.specs.Layout.{directoryAt, segmentsAt, cardWidth, faultWidth, cardsAt, faultsAt, lengthFor, boundsWord, ruleWord, shapeOk, shapeOf, last, follow, bytesOf, cardWord, faultWord}
+use Rattle.model.specs.Layout.{directoryAt, segmentsAt, faultWidth, cardsAt, faultsAt, lengthFor, boundsWord, ruleWord, shapeOk, shapeOf, last, follow, bytesOf, cardWord, faultWord}
 
 -- how often a number stands in a list, and that it does
 abbrev pub times : ℕ → List ℕ → ℕ

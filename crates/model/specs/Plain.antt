@@ -68,7 +68,7 @@ says k m b room = record { number = k; faults = m; room = room; book = b }
 -- the words of a store with the same shape are as many, so 2 is known from the shape alone
 unfoldable pub bookOpen : Book → Terms → Reply
 bookOpen b t =
-    cond (not (limitsOk (t .cards) (t .faults))) (says 1 0 b [])
+    cond (not (limitsOk (shapeFor t))) (says 1 0 b [])
     (cond (not (eqb (lengthFor (b .shape)) (lengthFor (shapeFor t)))) (says 2 0 b [])
     (says 0 0 (record { shape = shapeFor t; entries = [] }) []))
 

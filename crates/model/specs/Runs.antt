@@ -5,8 +5,9 @@ use mathlib.Core.Bool.{cond}
 use lib.Dec.{ltb, eqb}
 use lib.ListN.{length, take}
 use Rattle.model.specs.Lists.{same}
+use Rattle.model.specs.Shape.{need}
 use Rattle.model.specs.Model.{Store}
-use Rattle.model.specs.Calls.{Outcome, Step, Terms, scratchNeed, enterStep, fileStep, showStep, withdrawStep, call, openCall}
+use Rattle.model.specs.Calls.{Outcome, Step, Terms, enterStep, fileStep, showStep, withdrawStep, call, openCall}
 use Rattle.model.specs.Plain.{Slip, Book, Reply, says, bookOpen, bookEnter, bookFile, bookShow, bookWithdraw}
 
 -- what is asked of a store: sixteen bytes and a length, then day and code, or the room for pairs
@@ -115,7 +116,7 @@ tells w (c ∷ cs) = tellOf w c ∷ tells (wordsAfter w c) cs
 -- the same asked of the plain list, which knows no scratch but refuses by 11 as the rules say
 abbrev pub bookCall : Book → Call → Reply
 bookCall b (opening t) = bookOpen b t
-bookCall b (acting scratch act) = cond (ltb (length scratch) scratchNeed) (says 11 0 b (roomOf act)) (consult b act)
+bookCall b (acting scratch act) = cond (ltb (length scratch) (need (b .shape))) (says 11 0 b (roomOf act)) (consult b act)
 
 abbrev pub bookAfter : Book → List Call → Book
 bookAfter b [] = b

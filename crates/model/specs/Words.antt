@@ -9,9 +9,9 @@ use lib.ListN.{length, getD, set, replicate}
 use lib.Seq.{sets}
 use Rattle.rules.specs.Code.{codeOf}
 use Rattle.rules.specs.Table.{splits, contracts, highMaxp, highP, lowMaxp, lowP}
-use Rattle.model.specs.Shape.{Shape, segmentSize, topOf}
+use Rattle.model.specs.Shape.{Shape, segmentSize, topOf, cardWidth}
 use Rattle.model.specs.Layout.{maxpAt, pAt, heldAt, faultsHeldAt, freeAt, freeFaultsAt, toNext, toFirst, toLast, toCount, toDay, toCode}
-use Rattle.model.specs.Layout.{directoryAt, segmentsAt, cardWidth, faultWidth, cardsAt, faultsAt, last, packed, cellAt, cardWord, faultWord}
+use Rattle.model.specs.Layout.{directoryAt, segmentsAt, faultWidth, cardsAt, faultsAt, last, packed, cellAt, cardWord, faultWord}
 use Rattle.model.specs.Meaning.{bucketsIn, bucketWord, bucketCells, serialIn}
 
 -- where word k of a card cell stands, and of a fault cell

@@ -3,18 +3,19 @@ use Prim.Native.Nat.{ℕ}
 use mathlib.Core.Path.{_≡_, refl}
 use mathlib.Core.Bool.{true}
 use mathlib.Core.List.{List}
+use native.Mathlib.Omega.{arith}
 use lib.ListN.{length}
 use Rattle.rules.proofs.Tests.{not-both}
-use Rattle.model.specs.Lists.{between}
 use Rattle.model.specs.Layout.{lengthFor, limitsOk, shapeOk, encode}
 use Rattle.model.specs.Model.{fresh}
-use Rattle.model.specs.Calls.{openCall}
+use Rattle.model.specs.Calls.{shapeFor, openCall}
+use Rattle.model.proofs.Shapes.{limits-fit}
 use Rattle.model.proofs.Outcomes.{terms-ok, open-cases}
-use Rattle.reader.specs.Depot.{depotCards, depotFaults, depotTerms, depotShape, opened}
+use Rattle.reader.specs.Depot.{depotTerms, depotShape, opened}
 
-limits : limitsOk depotCards depotFaults ≡ true
-unfolding limitsOk between
-limits = refl
+limits : limitsOk depotShape ≡ true
+unfolding shapeFor
+limits = limits-fit depotShape (omega arith) (omega arith) (omega arith) (omega arith)
 
 pub shape : shapeOk depotShape ≡ true
 shape = terms-ok depotTerms limits

@@ -11,14 +11,14 @@ use lib.Dec.{ltb}
 use lib.ListN.{length, take, drop, length-append, length-drop, length-replicate, take-append-drop}
 use lib.Seq.{sets, length-take-le, take-append-seam, drop-append-seam, take-append-le, drop-append-le}
 use Rattle.rules.proofs.Tests.{by-cases}
-use Rattle.model.specs.Layout.{decode, sound}
-use Rattle.model.specs.Calls.{scratchNeed}
+use Rattle.model.specs.Shape.{need}
+use Rattle.model.specs.Layout.{shapeOf, decode, sound}
 use Rattle.model.specs.Job.{Run, linesOf, runLines, started, Tally, mostText, job}
 use Rattle.model.proofs.Jobs.{job-cases, lines-end, lines-fit}
 use Rattle.job.specs.Text.{Puts}
 use Rattle.job.specs.declared.Done.{Done}
 use Rattle.job.proofs.Putting.{put-front, put-rest}
-use Rattle.reader.specs.Depot.{opened, outputSize, wholeSize, blank, nothing, closing, wholeText, depotText, Ended, Writes}
+use Rattle.reader.specs.Depot.{depotShape, opened, outputSize, wholeSize, blank, nothing, closing, wholeText, depotText, Ended, Writes}
 use Rattle.reader.proofs.Closing.{closing-long}
 
 module _ (w scratch text out : List ℕ) (t : Tally) where
@@ -48,7 +48,7 @@ linesText r = r .text ++ closing (r .number)
 
 unfoldable pub textIn : List ℕ → List ℕ → List ℕ → ℕ → Tally → List ℕ
 textIn w scratch text room t =
-    cond (ltb (length scratch) scratchNeed) (closing 11)
+    cond (ltb (length scratch) (need (shapeOf w))) (closing 11)
     (cond (ltb mostText (length text)) (closing 13)
     (cond (sound w) (linesText (runLines (linesOf text) room (started (decode w) t))) (closing 3)))
 
@@ -56,7 +56,7 @@ pub whole-text : (w scratch text out : List ℕ) (t : Tally) → wholeText (job 
 unfolding job wholeText textIn linesText
 whole-text w scratch text out t =
     let r = runLines (linesOf text) (length out) (started (decode w) t) in
-    by-cases (ltb (length scratch) scratchNeed) (λ e. rw e)
+    by-cases (ltb (length scratch) (need (shapeOf w))) (λ e. rw e)
     (λ e. rw e (by-cases (ltb mostText (length text)) (λ e. rw e)
     (λ e. rw e (by-cases (sound w) (λ e. rw (e, take-append-seam (r .text) (drop (length (r .text)) out))) (λ e. rw e)))))
 
@@ -76,19 +76,19 @@ abbrev behind : List ℕ → List ℕ
 behind out = drop outputSize out
 
 -- the job in the front of an output, and its closing line behind it
-module _ (input out : List ℕ) (l : length out ≡ wholeSize) {done : Done} {after : List ℕ} (e : Ended (job opened (blank scratchNeed) input (front out) nothing) done after) where
+module _ (input out : List ℕ) (l : length out ≡ wholeSize) {done : Done} {after : List ℕ} (e : Ended (job opened (blank (need depotShape)) input (front out) nothing) done after) where
   front-long : length (front out) ≡ outputSize
   front-long = length-take-le outputSize out (omega arith)
 
   bytes-front : done .bytes ≤ length (front out)
-  bytes-front = rw (e .bytes-are) (job-bytes opened (blank scratchNeed) input (front out) nothing)
+  bytes-front = rw (e .bytes-are) (job-bytes opened (blank (need depotShape)) input (front out) nothing)
 
   bytes-in : done .bytes ≤ length after
-  bytes-in = omega (arith, bytes-front, ap length (e .out-is), job-length opened (blank scratchNeed) input (front out) nothing)
+  bytes-in = omega (arith, bytes-front, ap length (e .out-is), job-length opened (blank (need depotShape)) input (front out) nothing)
 
   pub whole-fits : done .bytes + length (closing (done .number)) ≤ length (after ++ behind out)
   whole-fits =
-      let n : done .number ≤ 13 = rw (e .number-is) (job-number opened (blank scratchNeed) input (front out) nothing) in
+      let n : done .number ≤ 13 = rw (e .number-is) (job-number opened (blank (need depotShape)) input (front out) nothing) in
       omega (arith, bytes-in, closing-long (done .number) (omega arith), length-append after (behind out), length-drop outputSize out)
 
   -- up to its end stand the job's answers and the closing line, and behind it what stood there
@@ -96,11 +96,11 @@ module _ (input out : List ℕ) (l : length out ≡ wholeSize) {done : Done} {af
   unfolding depotText wholeText blank
   whole-front =
       rw (take-append-le (done .bytes) after (behind out) bytes-in, e .out-is, e .bytes-are, e .number-is)
-      (whole-same opened (blank scratchNeed) input nothing (front out) (blank outputSize) (front-long ∙ sym (length-replicate {A = ℕ} outputSize 0)))
+      (whole-same opened (blank (need depotShape)) input nothing (front out) (blank outputSize) (front-long ∙ sym (length-replicate {A = ℕ} outputSize 0)))
 
   whole-rest : drop (done .bytes) (after ++ behind out) ≡ drop (done .bytes) out
   whole-rest =
-      let kept : drop (done .bytes) after ≡ drop (done .bytes) (front out) = rw (e .bytes-are, e .out-is) (job-rest opened (blank scratchNeed) input (front out) nothing) in
+      let kept : drop (done .bytes) after ≡ drop (done .bytes) (front out) = rw (e .bytes-are, e .out-is) (job-rest opened (blank (need depotShape)) input (front out) nothing) in
       rw (drop-append-le (done .bytes) after (behind out) bytes-in, kept, ← (drop-append-le (done .bytes) (front out) (behind out) bytes-front), take-append-drop outputSize out)
 
   pub whole-writes : {r : ℕ} {left : List ℕ} → Puts (after ++ behind out) (done .bytes) (closing (done .number)) r left → Writes (depotText input) out r left

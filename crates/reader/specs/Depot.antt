@@ -5,10 +5,10 @@ use mathlib.Core.List.{List, [], _∷_, _++_}
 use Prim.Native.Nat.{ℕ, _+_}
 use lib.Dec.{eqb}
 use lib.ListN.{length, take, drop, replicate}
-use Rattle.model.specs.Shape.{Shape}
+use Rattle.model.specs.Shape.{Shape, need}
 use Rattle.model.specs.Model.{fresh}
 use Rattle.model.specs.Layout.{encode}
-use Rattle.model.specs.Calls.{scratchNeed, Terms, shapeFor}
+use Rattle.model.specs.Calls.{Terms, shapeFor}
 use Rattle.model.specs.Job.{decimal, Tally, Finished, job}
 use Rattle.job.specs.declared.Done.{Done}
 
@@ -55,7 +55,7 @@ unfoldable pub wholeText : Finished → List ℕ
 wholeText f = take (f .bytes) (f .out) ++ closing (f .number)
 
 unfoldable pub depotText : List ℕ → List ℕ
-depotText input = wholeText (job opened (blank scratchNeed) input (blank outputSize) nothing)
+depotText input = wholeText (job opened (blank (need depotShape)) input (blank outputSize) nothing)
 
 -- how a job ended, and the output that it left
 pub record Ended (f : Finished) (done : Done) (out : List ℕ) : Type 0 where

@@ -2,11 +2,11 @@
 ghost use mathlib.Core.Path.{_≡_};
 ghost use Prim.Native.Nat.{_+_, _≤_};
 ghost use lib.ListN.{length};
-ghost use Rattle.model.specs.Calls.{scratchNeed};
+ghost use Rattle.model.specs.Shape.{need};
 ghost use Rattle.model.specs.Job.{job};
 ghost use Rattle.job.specs.Text.{Puts};
 ghost use Rattle.job.specs.Runs.{Did};
-ghost use Rattle.reader.specs.Depot.{opened, wholeSize, blank, nothing, closing, depotText, Ended, Writes};
+ghost use Rattle.reader.specs.Depot.{depotShape, opened, wholeSize, blank, nothing, closing, depotText, Ended, Writes};
 use job::Done;
 use job::Ran;
 use job::Tally;
@@ -57,7 +57,7 @@ fn lent_run(words: &mut [u32], scratch: &mut [u8], text: &[u8], out: &mut [u8], 
 
 // One job on a fresh store: how it ended, and its answers at the front of the output.
 fn fresh_job(input: &[u8], out: &mut [u8]) -> Done
-    ensures { λ r. ⌜ Ended (job opened (blank scratchNeed) (now (input .entry)) (now (out .entry)) nothing) r (now (out .exit)) ⌝ }
+    ensures { λ r. ⌜ Ended (job opened (blank (need depotShape)) (now (input .entry)) (now (out .entry)) nothing) r (now (out .exit)) ⌝ }
 {
     let mut words = fresh();
     let mut scratch = [0u8; job::SCRATCH];

@@ -1,45 +1,62 @@
 -- Calls from their parts. On sound words a call is its plan and, where that goes ahead, the change (`enter-refused`, `enter-done` ..); for any
--- words the entry point refuses by 11 and 3 first (`call-short`, `call-unsound`) and then does what the call does (`call-does`).
-use mathlib.Core.Path.{_≡_, refl, sym, _∙_}
+-- words the one door answers 11, 3 or 0 (`admit-short`, `admit-unsound`, `admit-sound`); the entry point refuses by that number (`call-turned`) or does
+-- what the call does (`call-does`).
+use mathlib.Core.Path.{_≡_, refl, sym, subst, _∙_}
 use mathlib.Core.Bool.{true, false}
 use mathlib.Core.List.{List, []}
 use Prim.Native.Nat.{ℕ, _≤_, _<_}
 use lib.ListN.{length}
-use borrow.Author.Tests.{lt-ltb, le-ltb}
+use borrow.Author.Tests.{lt-ltb, le-ltb, ne-eqb}
+use Rattle.model.specs.Shape.{need}
 use Rattle.model.specs.Model.{Store}
-use Rattle.model.specs.Layout.{decode, encode, sound}
-use Rattle.model.specs.Calls.{Step, scratchNeed, cleaned, call, enterStep, fileStep, showStep, withdrawStep}
+use Rattle.model.specs.Layout.{shapeOf, decode, encode, sound}
+use Rattle.model.specs.Calls.{Step, refused, cleaned, admission, swept, call, enterStep, fileStep, showStep, withdrawStep}
 use Rattle.model.specs.Runs.{Act, perform, roomOf}
 use Rattle.model.proofs.Fair.{Good}
 use Rattle.model.proofs.Sound.{sound-good, words-stay}
 use Rattle.model.proofs.Cases.{enter-cases, file-cases, show-cases}
+use Rattle.model.proofs.Outcomes.{admitted}
 use Rattle.model.proofs.Refused.{refused-act}
-use Rattle.store.specs.Leaves.{Gives, turned, Leaves, Does}
+use Rattle.store.specs.Leaves.{Gives, turned, Admits, Leaves, Does}
 use Rattle.store.specs.declared.Answer as given
 use Rattle.store.specs.Plans.{answered, Plans}
 use Rattle.store.specs.declared.plans.Plan.{Plan}
 
 -- entry points
 
-refuses : (n : ℕ) {r : given.Answer} → r ≡ turned n → Gives (record { number = n; comparisons = 0; scanned = 0; faults = 0 }) r
+refuses : (n : ℕ) {r : given.Answer} → r ≡ turned n → Gives (refused n) r
 refuses n a = rw a (record { number-is = refl; comparisons-are = refl; scanned-is = refl; faults-are = refl })
 
-module _ (step : Store → Step) (w scratch room : List ℕ) {r : given.Answer} where
-  pub call-short : length scratch < scratchNeed → r ≡ turned 11
-      → Leaves (call step w scratch room) r w room scratch
-  unfolding call
-  call-short h a = rw (lt-ltb (length scratch) scratchNeed h) (record { answer = refuses 11 a; words-are = refl; room-is = refl; scratch-is = refl })
+-- what the one door answers
+module _ (w scratch : List ℕ) where
+  pub admit-short : length scratch < need (shapeOf w) → Admits w scratch 11 scratch
+  unfolding admission swept
+  admit-short h = let b = lt-ltb (length scratch) (need (shapeOf w)) h in record { number-is = rw b; scratch-is = rw b }
 
-  module _ (h : scratchNeed ≤ length scratch) {left : List ℕ} (l : left ≡ cleaned scratch) where
-    pub call-unsound : sound w ≡ false → r ≡ turned 3
-        → Leaves (call step w scratch room) r w room left
-    unfolding call
-    call-unsound e a = rw (le-ltb (length scratch) scratchNeed h, e) (record { answer = refuses 3 a; words-are = refl; room-is = refl; scratch-is = l })
+  module _ (h : need (shapeOf w) ≤ length scratch) {left : List ℕ} (l : left ≡ cleaned (need (shapeOf w)) scratch) where
+    pub admit-unsound : sound w ≡ false → Admits w scratch 3 left
+    unfolding admission swept
+    admit-unsound e = let b = le-ltb (length scratch) (need (shapeOf w)) h in record { number-is = rw (b, e); scratch-is = rw b l }
 
-    pub call-does : sound w ≡ true → {words paired : List ℕ} → Does (step (decode w)) r words paired
-        → Leaves (call step w scratch room) r words paired left
+    pub admit-sound : sound w ≡ true → Admits w scratch 0 left
+    unfolding admission swept
+    admit-sound e = let b = le-ltb (length scratch) (need (shapeOf w)) h in record { number-is = rw (b, e); scratch-is = rw b l }
+
+module _ (w scratch : List ℕ) {k : ℕ} {left : List ℕ} (a : Admits w scratch k left) where
+  pub sound-words : k ≡ 0 → sound w ≡ true
+  sound-words z = admitted w scratch (sym (a .number-is) ∙ z) .1
+
+  module _ (step : Store → Step) (room : List ℕ) {r : given.Answer} where
+    pub call-turned : (k ≡ 0 → ⊥) → r ≡ turned k → Leaves (call step w scratch room) r w room left
     unfolding call
-    call-does e d = rw (le-ltb (length scratch) scratchNeed h, e) (record { answer = d .answer; words-are = d .words-are; room-is = d .room-is; scratch-is = l })
+    call-turned ne e =
+        rw (ne-eqb (admission w scratch) 0 (λ z. ne (a .number-is ∙ z)))
+        (record { answer = subst (λ (n : ℕ). Gives (refused n) r) (a .number-is) (refuses k e); words-are = refl; room-is = refl; scratch-is = a .scratch-is })
+
+    pub call-does : k ≡ 0 → {words paired : List ℕ} → Does (step (decode w)) r words paired → Leaves (call step w scratch room) r words paired left
+    unfolding call
+    call-does z d =
+        rw (sym (a .number-is) ∙ z) (record { answer = d .answer; words-are = d .words-are; room-is = d .room-is; scratch-is = a .scratch-is })
 
 -- calls on sound words: a plan that refuses leaves the words and the room, one that goes ahead leaves those of its step
 

@@ -11,19 +11,18 @@ use borrow.Author.Tests.{eq-eqb, ne-eqb}
 use lib.Dec.{eqb}
 use lib.ListN.{length, getD, set, length-set}
 use Rattle.model.specs.Lists.{between}
-use Rattle.model.specs.Shape.{segmentSize, Shape, entries, topOf}
-use Rattle.model.specs.Layout.{toNext}
-use Rattle.model.specs.Layout.{mostCards, mostWidth, cardWidth, faultWidth, segmentsAt, cardsAt, faultsAt, lengthFor, shapeOk, cellAt, cardWord, faultWord}
+use Rattle.model.specs.Shape.{segmentSize, Shape, entries, topOf, cardsEver, cardWidth}
+use Rattle.model.specs.Layout.{toNext, mostWidth, faultWidth, segmentsAt, cardsAt, faultsAt, lengthFor, shapeOk, cellAt, cardWord, faultWord}
 use Rattle.model.proofs.Places.{cellAt-below}
-use Rattle.model.proofs.Shapes.{top-most, entries-some, width-least, width-most, shaped}
+use Rattle.model.proofs.Shapes.{top-most, entries-some, width-least, width-most, shaped, few-cards, few-faults}
 use Rattle.store.specs.declared.cells.Header.{Header}
 use Rattle.store.specs.Cells.{shapeIn, Room, Sized, widthOf, cellWord, sameKey, metFirst, freeFits}
 use Rattle.store.proofs.Rows.{testFrom}
 
 -- what a header has in numbers, where the words are so long
 module _ (w : List ℕ) (h : Header) (ok : shapeOk (shapeIn h) ≡ true) (long : length w ≡ lengthFor (shapeIn h)) where
-  cards-most : cardWidth (shapeIn h) * h .cards ≤ mostWidth * mostCards
-  cards-most = mul-le-mul {n₂ = mostWidth} {m₂ = mostCards} (width-most (shapeIn h)) (shaped (shapeIn h) ok .most)
+  cards-most : cardWidth (shapeIn h) * h .cards ≤ mostWidth * cardsEver
+  cards-most = mul-le-mul {n₂ = mostWidth} {m₂ = cardsEver} (width-most (shapeIn h)) (few-cards (shapeIn h) ok)
 
   room-from : h .top ≡ topOf (shapeIn h) → h .segments ≡ segmentsAt (shapeIn h) → h .base ≡ cardsAt (shapeIn h) → h .width ≡ cardWidth (shapeIn h)
       → h .behind ≡ faultsAt (shapeIn h) → Room w h
@@ -38,12 +37,13 @@ module _ (w : List ℕ) (h : Header) (ok : shapeOk (shapeIn h) ≡ true) (long :
         table = omega (arith, b, g, t);
         within = omega (arith, b, f);
         whole = omega (arith, long, f);
-        few = omega (arith, long, cards-most, top-most (shapeIn h), k .mostFaults);
+        few = omega (arith, long, cards-most, top-most (shapeIn h), few-faults (shapeIn h) ok);
         wide = omega (arith, v, width-least (shapeIn h));
         cards = k .some;
         faults = k .someFaults;
-        mostCards = k .most;
-        mostFaults = k .mostFaults;
+        mostCards = few-cards (shapeIn h) ok;
+        mostFaults = few-faults (shapeIn h) ok;
+        marks = k .marks;
       }
 
   pub sized-from : h .top ≡ topOf (shapeIn h) → h .segments ≡ segmentsAt (shapeIn h) → h .base ≡ cardsAt (shapeIn h) → h .width ≡ cardWidth (shapeIn h)

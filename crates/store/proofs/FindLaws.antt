@@ -13,11 +13,10 @@ use Rattle.rules.proofs.Tests.{by-cases, both, all-of, not-both}
 use Rattle.rules.specs.Code.{codeOf}
 use Rattle.rules.specs.Table.{addressOf}
 use Rattle.model.specs.Lists.{all, same}
-use Rattle.model.specs.Shape.{Shape, topOf}
+use Rattle.model.specs.Shape.{Shape, topOf, cardWidth}
 use Rattle.model.specs.Serial.{mostBytes, serialOk, validSerial}
 use Rattle.model.specs.Model.{Card, Store, bucket, addressIn, chainFor, is, found, before, comparisons, cellsOf, histories, historyIn}
-use Rattle.model.specs.Layout.{toLength, toSerial, toFirst, toCount}
-use Rattle.model.specs.Layout.{headOr, chained, cardWidth, segmentsAt, cardsAt, first, last, packed, cardCell, cardWord, goodCard, sound, decodeAs, decode}
+use Rattle.model.specs.Layout.{toLength, toSerial, toFirst, toCount, headOr, chained, segmentsAt, cardsAt, first, last, packed, cardCell, cardWord, goodCard, sound, decodeAs, decode}
 use Rattle.model.specs.Meaning.{nextCard, nextFault}
 use Rattle.model.proofs.Lists.{same-refl, same-eq, length-none, Every}
 use Rattle.model.proofs.Chains.{Stands, Stand}

@@ -17,10 +17,10 @@ use lib.Seq.{take-all, take-at, length-take-le}
 use Rattle.rules.specs.Table.{least}
 use Rattle.rules.proofs.Tests.{eq?}
 use Rattle.model.specs.Lists.{join, from}
-use Rattle.model.specs.Shape.{Shape, segmentSize, entries, topOf}
+use Rattle.model.specs.Shape.{Shape, segmentSize, entries, topOf, cardsEver, cardWidth}
 use Rattle.model.specs.Model.{Card, Store, fresh}
-use Rattle.model.specs.Layout.{mostCards, farthest, leastEntries, mostWidth, Cell, directoryAt, segmentsAt, shapeOk, boundsWord, ruleWord, cardWidth, faultWidth, freeCell, cardCell, faultCell, chained, headOr, wordsOf, part, cardChains, faultChains, cardsAt, faultsAt, lengthFor, header, directory, segments, front, encode}
-use Rattle.model.proofs.Shapes.{shaped, entries-some, width-least, width-most, top-most}
+use Rattle.model.specs.Layout.{farthest, leastEntries, mostWidth, Cell, directoryAt, segmentsAt, shapeOk, boundsWord, ruleWord, faultWidth, freeCell, cardCell, faultCell, chained, headOr, wordsOf, part, cardChains, faultChains, cardsAt, faultsAt, lengthFor, header, directory, segments, front, encode}
+use Rattle.model.proofs.Shapes.{shaped, entries-some, width-least, width-most, top-most, few-cards, few-faults}
 use Rattle.model.proofs.Rep.{directory-length}
 use Rattle.store.specs.Fresh.{behind, leading, cellsTo}
 
@@ -210,15 +210,14 @@ pub record Spans (sh : Shape) : Type 0 where
 pub spans : (sh : Shape) → shapeOk sh ≡ true → Spans sh
 unfolding lengthFor faultsAt cardsAt
 spans sh t =
-    let k = shaped sh t in
-    let m : cardWidth sh * sh .limit ≤ mostWidth * mostCards = mul-le-mul {n₂ = mostWidth} {m₂ = mostCards} (width-most sh) (k .most) in
+    let m : cardWidth sh * sh .limit ≤ mostWidth * cardsEver = mul-le-mul {n₂ = mostWidth} {m₂ = cardsEver} (width-most sh) (few-cards sh t) in
     record {
       head = refl;
       some = entries-some sh;
       table = refl;
       cards = refl;
       faults = refl;
-      few = omega (arith, m, top-most sh, k .mostFaults);
+      few = omega (arith, m, top-most sh, few-faults sh t);
       wide = omega (arith, width-least sh);
     }
 

@@ -1,5 +1,5 @@
 -- Laws of the words before the cells, that the functions of `front` rest on.
-use mathlib.Core.Path.{_≡_, refl, sym, ap, _∙_}
+use mathlib.Core.Path.{_≡_, sym, ap, _∙_}
 use mathlib.Core.Bool.{Bool, true}
 use mathlib.Core.List.{List}
 use Prim.Native.Nat.{ℕ, _+_, _-_, _*_, _≤_, _<_}
@@ -9,9 +9,8 @@ use lib.Dec.{eqb, leb}
 use lib.ListN.{length, getD}
 use borrow.Author.Tests.{eqb-true, leb-true}
 use Rattle.rules.proofs.Tests.{both}
-use Rattle.model.specs.Shape.{Shape, entries, topOf}
-use Rattle.model.specs.Layout.{maxpAt, pAt, directoryOffsetAt, segmentsOffsetAt, cardsOffsetAt, faultsOffsetAt, wholeLengthAt, boundsAt, ruleAt}
-use Rattle.model.specs.Layout.{mostWidth, directoryAt, segmentsAt, cardWidth, cardsAt, faultsAt, lengthFor, boundsWord, ruleWord, shapeOk, shapeOf}
+use Rattle.model.specs.Shape.{Shape, entries, topOf, cardWidth}
+use Rattle.model.specs.Layout.{maxpAt, pAt, directoryOffsetAt, segmentsOffsetAt, cardsOffsetAt, faultsOffsetAt, wholeLengthAt, boundsAt, ruleAt, mostWidth, directoryAt, segmentsAt, cardsAt, faultsAt, lengthFor, boundsWord, ruleWord, shapeOk, shapeOf}
 use Rattle.model.proofs.Shapes.{width-most, top-most}
 use Rattle.store.specs.declared.cells.Header.{Header}
 use Rattle.store.specs.Cells.{shapeIn, Read}

@@ -1,7 +1,7 @@
 -- The words of a fair store are those that stand for it (`fairly-rep`, `rep-fairly`). So their header is right, where the load asks for a
 -- split or a contraction it may be made (`may-split`, `may-join`), and the words then are those of the store grown or shrunk (`grow-yes`, `grow-no`,
 -- `shrink-yes`, `shrink-no`).
-use mathlib.Core.Path.{_≡_, sym, ap, subst, subst₂, _∙_}
+use mathlib.Core.Path.{_≡_, sym, ap, subst, _∙_}
 use mathlib.Core.Bool.{true, false}
 use mathlib.Core.List.{List}
 use Prim.Native.Nat.{ℕ, _+_, _≤_, _<_}

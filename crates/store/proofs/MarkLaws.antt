@@ -1,6 +1,6 @@
 -- Laws of marks. A mark is one bit of one byte: the mask 2 ^ j has bit j alone, so masking shows that bit (`test`), and setting it
--- sets that bit and leaves the others (`marked-same`, `marked-other`). Numbers below 8 * scratchNeed have their bit in the first
--- scratchNeed bytes, so marking leaves the bytes behind those as they were (`rest-marked`), and cleaning in the end shows nothing
+-- sets that bit and leaves the others (`marked-same`, `marked-other`). Numbers below 8 * n have their bit in the first n
+-- bytes, so marking leaves the bytes behind those as they were (`rest-marked`), and cleaning in the end shows nothing
 -- of what was marked (`cleaned-again`).
 use mathlib.Core.Path.{_≡_, sym, ap, subst, _∙_}
 use mathlib.Core.Bool.{true, false, not}
@@ -16,7 +16,7 @@ use lib.Dec.{eqb, lit<}
 use lib.ListN.{length, getD, set, drop, replicate, length-set, getD-replicate, length-replicate, length-append, length-drop, List·getD-append}
 use lib.Seq.{getD-set-same, getD-set-other, drop-set-lt, drop-at}
 use Rattle.rules.proofs.Tests.{eq?, lt?}
-use Rattle.model.specs.Calls.{scratchNeed, cleaned}
+use Rattle.model.specs.Calls.{cleaned}
 use Rattle.store.specs.Marks.{bitOf, markAt, markedAt}
 
 -- the mask: 1 shifted by j, which a u8 holds
@@ -83,9 +83,9 @@ module _ (bytes : List ℕ) (k : ℕ) where
   length-marked = length-set bytes (k / 8) _
 
   -- what stands behind the first bytes stays
-  pub rest-marked : k < 8 * scratchNeed → drop scratchNeed (markedAt bytes k) ≡ drop scratchNeed bytes
+  pub rest-marked : (n : ℕ) → k < 8 * n → drop n (markedAt bytes k) ≡ drop n bytes
   unfolding markedAt
-  rest-marked h = drop-set-lt scratchNeed bytes (k / 8) _ (omega arith)
+  rest-marked n h = drop-set-lt n bytes (k / 8) _ (omega arith)
 
   pub marked-same : k / 8 < length bytes → markAt (markedAt bytes k) k ≡ true
   unfolding markAt markedAt
@@ -107,25 +107,25 @@ zeros n bytes k h =
     rw (List·getD-append (replicate n 0) (drop n bytes) 0 (k / 8) (subst (λ (l : ℕ). k / 8 < l) (sym (length-replicate n 0)) h), getD-replicate {A = ℕ} n (k / 8) 0 0 h, zero-div (2 ^ (k % 8)))
 
 -- what cleaning leaves
-module _ (bytes : List ℕ) where
-  pub all-cleaned : (n : ℕ) → n ≡ scratchNeed → replicate n 0 ++ drop n bytes ≡ cleaned bytes
+module _ (n : ℕ) (bytes : List ℕ) where
+  pub all-cleaned : (i : ℕ) → i ≡ n → replicate i 0 ++ drop i bytes ≡ cleaned n bytes
   unfolding cleaned
-  all-cleaned n e = ap (λ (m : ℕ). replicate m 0 ++ drop m bytes) e
+  all-cleaned i e = ap (λ (m : ℕ). replicate m 0 ++ drop m bytes) e
 
-  pub rest-cleaned : drop scratchNeed (cleaned bytes) ≡ drop scratchNeed bytes
+  pub rest-cleaned : drop n (cleaned n bytes) ≡ drop n bytes
   unfolding cleaned
-  rest-cleaned = drop-at (replicate scratchNeed 0) (drop scratchNeed bytes) scratchNeed (length-replicate {A = ℕ} scratchNeed 0)
+  rest-cleaned = drop-at (replicate n 0) (drop n bytes) n (length-replicate {A = ℕ} n 0)
 
-  pub length-cleaned : scratchNeed ≤ length bytes → length (cleaned bytes) ≡ length bytes
+  pub length-cleaned : n ≤ length bytes → length (cleaned n bytes) ≡ length bytes
   unfolding cleaned
-  length-cleaned h = omega (arith, length-append (replicate scratchNeed 0) (drop scratchNeed bytes), length-replicate {A = ℕ} scratchNeed 0, length-drop scratchNeed bytes)
+  length-cleaned h = omega (arith, length-append (replicate n 0) (drop n bytes), length-replicate {A = ℕ} n 0, length-drop n bytes)
 
   -- what is cleaned in the end does not show what was marked
-  pub cleaned-again : (left : List ℕ) → drop scratchNeed left ≡ drop scratchNeed bytes → cleaned left ≡ cleaned bytes
+  pub cleaned-again : {m : ℕ} → m ≡ n → (left : List ℕ) → drop n left ≡ drop n bytes → cleaned m left ≡ cleaned n bytes
   unfolding cleaned
-  cleaned-again left e = ap (λ (r : List ℕ). replicate scratchNeed 0 ++ r) e
+  cleaned-again e left d = rw (e, d)
 
   -- nothing is marked there
-  pub none-marked : (k : ℕ) → k < 8 * scratchNeed → markAt (cleaned bytes) k ≡ false
+  pub none-marked : (k : ℕ) → k < 8 * n → markAt (cleaned n bytes) k ≡ false
   unfolding cleaned
-  none-marked k h = zeros scratchNeed bytes k (omega arith)
+  none-marked k h = zeros n bytes k (omega arith)

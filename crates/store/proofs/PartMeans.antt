@@ -12,12 +12,10 @@ use borrow.Author.Tests.{eqb-true, eq-eqb}
 use lib.Dec.{eqb}
 use lib.ListN.{length, getD, length-append}
 use Rattle.rules.proofs.Tests.{both, all-of, eq?, lt?}
-use Rattle.model.specs.Shape.{Shape}
+use Rattle.model.specs.Shape.{Shape, need}
 use Rattle.model.specs.Lists.{join, from, total}
-use Rattle.model.specs.Layout.{freeAt, freeFaultsAt}
-use Rattle.model.specs.Layout.{follow, last}
+use Rattle.model.specs.Layout.{freeAt, freeFaultsAt, follow, last}
 use Rattle.model.specs.Meaning.{times, In, ExactlyOnce, Leads}
-use Rattle.model.specs.Calls.{scratchNeed}
 use Rattle.model.proofs.Lists.{Every, every-map, map-every}
 use Rattle.model.proofs.Sums.{bit, count, total-append}
 use Rattle.model.proofs.Walks.{times-count, every-in, in-every, in-one, one-in, marked-once}
@@ -125,7 +123,7 @@ from-every : (P : ℕ → Type 0) (a n : ℕ) → ((j : ℕ) → a ≤ j → j <
 from-every P a zero f = tt
 from-every P a (suc n) f = (f a (omega arith) (omega arith), from-every P (suc a) n (λ j l h. f j (omega arith) (omega arith)))
 
-module _ (sh : Shape) (w : List ℕ) (faults : Bool) (bytes : List ℕ) (marks : baseOf sh faults + limitOf sh faults ≤ 8 * scratchNeed) (long : scratchNeed ≤ length bytes)
+module _ (sh : Shape) (w : List ℕ) (faults : Bool) (bytes : List ℕ) (marks : baseOf sh faults + limitOf sh faults ≤ 8 * need sh) (long : need sh ≤ length bytes)
     (none : (k : ℕ) → baseOf sh faults ≤ k → k < baseOf sh faults + limitOf sh faults → markAt bytes k ≡ false) where
   abbrev base : ℕ
   base = baseOf sh faults
@@ -152,12 +150,12 @@ module _ (sh : Shape) (w : List ℕ) (faults : Bool) (bytes : List ℕ) (marks :
   abbrev rest : Tot
   rest = chainsOf sh w faults (chainCount sh w faults) (free .bytes)
 
-  free-long : scratchNeed ≤ length (free .bytes)
+  free-long : need sh ≤ length (free .bytes)
   free-long = omega (arith, kept-free sh w faults bytes marks long)
 
-  met : free .ok ≡ true → Met next base limit marks (cellFits sh w faults Free) (freeHead w faults) 0 0 (freeIn sh w faults) [] free
+  met : free .ok ≡ true → Met next (need sh) base limit marks (cellFits sh w faults Free) (freeHead w faults) 0 0 (freeIn sh w faults) [] free
   unfolding freeOf
-  met ok = accepted next base limit marks (cellFits sh w faults Free) bytes (freeHead w faults) [] long fresh ok
+  met ok = accepted next (need sh) base limit marks (cellFits sh w faults Free) bytes (freeHead w faults) [] long fresh ok
 
   behind : free .ok ≡ true → Seen base limit (free .bytes) (freeIn sh w faults)
   behind ok = subst (Seen base limit (free .bytes)) (append-nil (freeIn sh w faults)) (met ok .left)
@@ -165,7 +163,7 @@ module _ (sh : Shape) (w : List ℕ) (faults : Bool) (bytes : List ℕ) (marks :
   walked : (f : free .ok ≡ true) → rest .ok ≡ true
       → Every (Right next limit) starts × Apart limit (join (map (read next limit) starts)) (freeIn sh w faults) × (rest .total ≡ 0 + length (join (map (read next limit) starts)))
   unfolding chainsOf
-  walked f ok = walks-accepted next base limit marks starts (free .bytes) 0 (freeIn sh w faults) free-long (behind f) ok
+  walked f ok = walks-accepted next (need sh) base limit marks starts (free .bytes) 0 (freeIn sh w faults) free-long (behind f) ok
 
   found-is : partOf sh w faults bytes .ok ≡ true → Found sh w faults
   unfolding partOf
@@ -188,12 +186,12 @@ module _ (sh : Shape) (w : List ℕ) (faults : Bool) (bytes : List ℕ) (marks :
 
   free-ok : Found sh w faults → free .ok ≡ true
   unfolding freeOf
-  free-ok p = accepts next base limit marks (cellFits sh w faults Free) bytes (freeHead w faults) [] long fresh (p .free) (λ x a b. omega (arith, p .apart x a b))
+  free-ok p = accepts next (need sh) base limit marks (cellFits sh w faults Free) bytes (freeHead w faults) [] long fresh (p .free) (λ x a b. omega (arith, p .apart x a b))
 
   rest-ok : Found sh w faults → rest .ok ≡ true
   unfolding chainsOf
   rest-ok p =
-      walks-accept next base limit marks starts (free .bytes) 0 (freeIn sh w faults) free-long (behind (free-ok p))
+      walks-accept next (need sh) base limit marks starts (free .bytes) 0 (freeIn sh w faults) free-long (behind (free-ok p))
       (map-every (Right next limit) (startOf sh w faults) (from 0 (chainCount sh w faults)) (from-every (λ j. Right next limit (startOf sh w faults j)) 0 (chainCount sh w faults) (λ j a b. p .chains j (omega arith))))
       (subst (λ (l : List ℕ). Apart limit l (freeIn sh w faults)) (sym cells-are) (p .apart))
 

@@ -8,20 +8,18 @@ use Prim.Native.Nat.{ℕ, _+_, _*_, _≤_}
 use native.Mathlib.Omega.{arith}
 use lib.Dec.{eqb}
 use lib.ListN.{length, drop, getD}
-use Rattle.model.specs.Shape.{Shape, topOf}
-use Rattle.model.specs.Layout.{maxpAt, pAt, freeAt, freeFaultsAt}
-use Rattle.model.specs.Layout.{shapeOf}
+use Rattle.model.specs.Shape.{Shape, topOf, need}
+use Rattle.model.specs.Layout.{maxpAt, pAt, freeAt, freeFaultsAt, shapeOf}
 use Rattle.store.specs.declared.cells.Header.{Header}
 use Rattle.rules.proofs.Tests.{both}
 use Rattle.rules.proofs.States.{state-of}
 use Rattle.model.specs.Lists.{from}
-use Rattle.model.specs.Calls.{scratchNeed}
 use Rattle.store.specs.declared.cells.Chain.the-variants.{Free}
 use Rattle.store.specs.Cells.{shapeIn, Read, limitOf, cellFits}
 use Rattle.store.specs.Walk.{walkOf, walksFrom, Did, DidAll}
 use Rattle.store.specs.Checker.{limitsFit, offsetsFit, frontFits, nextIn, startOf, baseOf, reachOf, chainCount, chainsOf, freeOf, heldWord, partOf, DidPart, checked, DidCheck}
 use Rattle.store.proofs.WalkLaws.{Kept}
-use Rattle.store.proofs.PartLaws.{marks-fit, kept-part}
+use Rattle.store.proofs.PartLaws.{kept-part, part-marks}
 use Rattle.store.proofs.FrontMeans.{front-is}
 
 module _ {w : List ℕ} {h : Header} (r : Read w h) where
@@ -46,10 +44,9 @@ module _ {w : List ℕ} {h : Header} (r : Read w h) where
   chains-reach true l = omega arith
   chains-reach false l = omega (arith, l, r .sized .top)
 
-  pub marks-reach : (faults : Bool) → cond faults (h .cards) 0 + cond faults (h .faults) (h .cards) ≤ 8 * scratchNeed
-  unfolding scratchNeed
-  marks-reach true = let s = r .sized .room in omega arith
-  marks-reach false = let s = r .sized .room in omega arith
+  pub marks-reach : (faults : Bool) → cond faults (h .cards) 0 + cond faults (h .faults) (h .cards) ≤ 8 * need sh
+  marks-reach true = r .sized .room .marks
+  marks-reach false = omega (arith, r .sized .room .marks)
 
   module _ (faults : Bool) {base limit : ℕ} (b : base ≡ cond faults (h .cards) 0) (l : limit ≡ cond faults (h .faults) (h .cards)) where
     pub did-free : (bytes : List ℕ) {n last : ℕ} {ok : Bool} {left : List ℕ}
@@ -95,12 +92,12 @@ module _ (w bytes : List ℕ) where
   unfolding checked
   front-stops e = record { ok-is = sym (ap (λ (t : Bool). t && (partOf told w false bytes .ok && partOf told w true (partOf told w false bytes .bytes) .ok)) e); rest = refl }
 
-  module _ (f : frontFits w ≡ true) (long : scratchNeed ≤ length bytes) {h : Header} (r : Read w h) {cards : Bool} {left : List ℕ} (by-header : DidPart (partOf (shapeIn h) w false bytes) cards left) where
+  module _ (f : frontFits w ≡ true) (long : need told ≤ length bytes) {h : Header} (r : Read w h) {cards : Bool} {left : List ℕ} (by-header : DidPart (partOf (shapeIn h) w false bytes) cards left) where
     d : DidPart (partOf told w false bytes) cards left
     d = subst (λ (s : Shape). DidPart (partOf s w false bytes) cards left) (sym (r .shape)) by-header
 
-    kept : (faults : Bool) (bytes : List ℕ) → scratchNeed ≤ length bytes → Kept (baseOf told faults) (limitOf told faults) bytes (partOf told w faults bytes .bytes)
-    kept faults bytes = kept-part told w faults bytes (marks-fit told faults (front-is w f .shape))
+    kept : (faults : Bool) (bytes : List ℕ) → need told ≤ length bytes → Kept (need told) (baseOf told faults) (limitOf told faults) bytes (partOf told w faults bytes .bytes)
+    kept faults bytes = kept-part told w faults bytes (part-marks told faults (front-is w f .shape))
 
     after : checked w bytes ≡ (cards && partOf told w true left .ok)
     unfolding checked
@@ -116,5 +113,5 @@ module _ (w bytes : List ℕ) where
         let l : length left ≡ length bytes = ap length (d .left-is) ∙ k .long in
         record {
           ok-is = g .ok-is ∙ sym (after ∙ ap (λ (t : Bool). t && partOf told w true left .ok) e);
-          rest = ap (drop scratchNeed) (g .left-is) ∙ kept true left (omega arith) .rest ∙ ap (drop scratchNeed) (d .left-is) ∙ k .rest;
+          rest = ap (drop (need told)) (g .left-is) ∙ kept true left (omega arith) .rest ∙ ap (drop (need told)) (d .left-is) ∙ k .rest;
         }

@@ -11,9 +11,8 @@ use lib.Dec.{lit<}
 use lib.ListN.{length, set}
 use lib.Seq.{getD-set-other}
 use Rattle.rules.proofs.Tests.{eq?}
-use Rattle.model.specs.Shape.{Shape, topOf}
-use Rattle.model.specs.Layout.{toNext}
-use Rattle.model.specs.Layout.{cardWidth, cardsAt, follow, cardWord}
+use Rattle.model.specs.Shape.{Shape, topOf, cardWidth}
+use Rattle.model.specs.Layout.{toNext, cardsAt, follow, cardWord}
 use Rattle.model.specs.Meaning.{nextCard, bucketWord}
 use Rattle.model.specs.Words.{cardAt, linkAt, movesAt, partWords}
 use Rattle.model.proofs.Sums.{count}

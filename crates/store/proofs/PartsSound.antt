@@ -9,11 +9,10 @@ use borrow.Author.Tests.{eqb-true}
 use lib.Dec.{eqb, lit<}
 use lib.ListN.{length}
 use Rattle.rules.proofs.Tests.{both}
-use Rattle.model.specs.Shape.{Shape}
+use Rattle.model.specs.Shape.{Shape, cardWidth}
 use Rattle.model.specs.Lists.{total}
 use Rattle.model.specs.Serial.{validFault}
-use Rattle.model.specs.Layout.{maxpAt, pAt, toFirst, toLast, toCount, toDay, toCode}
-use Rattle.model.specs.Layout.{cardWidth, faultWidth, last, cardWord, faultWord}
+use Rattle.model.specs.Layout.{toFirst, toLast, toCount, toDay, toCode, faultWidth, last, cardWord, faultWord}
 use Rattle.model.specs.Meaning.{In, ExactlyOnce, Leads, bucketsIn, bucketWord, nextFault, bucketCells, freeCells, historyCells, freeFaultCells, heldCells, filedCells, serialIn, SoundAs}
 use Rattle.model.proofs.Sums.{bit, count, total-append, length-total}
 use Rattle.model.proofs.Walks.{times-count, one-in}

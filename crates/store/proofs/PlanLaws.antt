@@ -12,11 +12,10 @@ use borrow.Author.Tests.{eq-eqb, ne-eqb, lt-ltb, le-ltb}
 use Rattle.rules.specs.Table.{least, splits, contracts}
 use Rattle.rules.proofs.Tests.{by-cases}
 use Rattle.rules.proofs.States.{State, state-of, size-low}
-use Rattle.model.specs.Shape.{Shape, topOf}
+use Rattle.model.specs.Shape.{Shape, topOf, cardsEver, faultsEver}
 use Rattle.model.specs.Serial.{validSerial, validFault}
 use Rattle.model.specs.Model.{Store, Card, held, faultsHeld, size, bucket, chainFor, found, historyIn, removed, contractScan}
-use Rattle.model.specs.Layout.{heldAt, faultsHeldAt, toFirst}
-use Rattle.model.specs.Layout.{segmentsAt, mostCards, mostFaults, follow, cardWord, decode, sound}
+use Rattle.model.specs.Layout.{heldAt, faultsHeldAt, toFirst, segmentsAt, follow, cardWord, decode, sound}
 use Rattle.model.specs.Meaning.{nextCard, nextFault}
 use Rattle.model.specs.Calls.{Answer, gives, enterStep, fileStep, showStep, withdrawStep}
 use Rattle.model.proofs.Readings.{held-at, faults-held-at}
@@ -57,7 +56,7 @@ module _ {w : List ℕ} (e : sound w ≡ true) {h : Header} (q : Read w h) where
   pub filed-word : getD w faultsHeldAt 0 ≡ faultsHeld (decode w)
   filed-word = faults-held-at w (decode w) (sound-is w e .0)
 
-  pub held-room : getD w heldAt 0 ≤ mostCards
+  pub held-room : getD w heldAt 0 ≤ cardsEver
   held-room = omega (arith, held-word, cards-fit (decode w) (sound-good w e .0), ap (λ (sh : Shape). sh .limit) shape-is, q .sized .room)
 
   -- a bucket
@@ -77,12 +76,12 @@ module _ {w : List ℕ} (e : sound w ≡ true) {h : Header} (q : Read w h) where
         ap (λ (sh : Shape). length (follow (sh .limit) (nextCard sh w) (getD w (segmentsAt sh + b) 0))) (sym shape-is)
         ∙ ap length (bucket-cells (sound-is w e .0) b within) ∙ length-map (bucket (decode w) b) (λ (x : Card). x .at)
 
-    pub bucket-room : length (bucket (decode w) b) ≤ mostCards
+    pub bucket-room : length (bucket (decode w) b) ≤ cardsEver
     bucket-room = omega (arith, bucket-length, follow-length (h .cards) (nextCard (shapeIn h) w) (getD w (segmentsAt (shapeIn h) + b) 0), q .sized .room)
 
   -- a card that is held
 
-  pub held-history : {y : List ℕ} {i : ℕ} → HeldCell w y h i → length (historyIn (decode w) y) ≤ mostFaults
+  pub held-history : {y : List ℕ} {i : ℕ} → HeldCell w y h i → length (historyIn (decode w) y) ≤ faultsEver
   held-history {y} {i} k =
       omega (arith, ap length (k .history), faults-long (shapeIn h) w (cardWord (shapeIn h) w i toFirst), follow-length (h .faults) (nextFault (shapeIn h) w) (cardWord (shapeIn h) w i toFirst), q .sized .room)
 

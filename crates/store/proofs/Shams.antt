@@ -10,10 +10,10 @@ use native.Mathlib.Omega.{arith}
 use lib.ListN.{length, take, replicate}
 use Rattle.model.specs.Lists.{between}
 use Rattle.model.specs.Serial.{allowed, serialOk, validSerial}
-use Rattle.model.specs.Shape.{Shape}
+use Rattle.model.specs.Shape.{Shape, need}
 use Rattle.model.specs.Model.{Store, chainFor, before, fresh}
-use Rattle.model.specs.Layout.{firstLower, firstUpper, limitsOk, formatOk, shapeOk, encode, decode, sound}
-use Rattle.model.specs.Calls.{Answer, scratchNeed}
+use Rattle.model.specs.Layout.{firstLower, firstUpper, formatOk, shapeOk, encode, decode, sound, shapeOf}
+use Rattle.model.specs.Calls.{Answer}
 use Rattle.model.specs.Runs.{Act, Act.enter, Act.show, perform, Call, Call.opening, Call.acting, outcome}
 use Rattle.model.specs.Deeds.{tidy}
 use Rattle.model.proofs.Look.{look}
@@ -27,6 +27,7 @@ use Rattle.model.proofs.Deeds.{tidy-long}
 use Rattle.model.proofs.Counts.{serialOf, Searches, scanOf, compared-held, compared-missing, compared-none, scanned-done, scanned-refused}
 use Rattle.model.proofs.Refused.{Changing, done-changes}
 use Rattle.store.specs.Sequences.{Given, Made, Meets, AllMeet}
+use Rattle.model.proofs.Shapes.{limits-fit}
 
 -- a program: what it gives and leaves on any words for any call; and one that meets the contracts
 abbrev pub Program : Type 0
@@ -40,8 +41,8 @@ one-one : Shape
 one-one = record { format = 1; limit = 1; faultLimit = 1; upper = firstUpper; lower = firstLower }
 
 limits : shapeOk one-one ≡ true
-unfolding one-one shapeOk formatOk limitsOk between
-limits = refl
+unfolding one-one shapeOk formatOk
+limits = limits-fit one-one (omega arith) (omega arith) (omega arith) (omega arith)
 
 unfoldable seven : List ℕ
 seven = 55 ∷ replicate 15 0
@@ -56,38 +57,45 @@ new = encode (fresh one-one)
 new-sound : sound new ≡ true
 new-sound = fresh-sound one-one limits
 
+-- scratch as long as it asks
+abbrev lent : List ℕ
+lent = tidy (shapeOf new)
+
+lent-long : need (shapeOf new) ≤ length lent
+lent-long = tidy-long (shapeOf new)
+
 -- an act with enough scratch on that store
-on-new : (a : Act) → outcome new tidy a .answer .number ≡ perform (fresh one-one) a .answer .number
+on-new : (a : Act) → outcome new lent a .answer .number ≡ perform (fresh one-one) a .answer .number
 on-new a =
-    call-cases new tidy a new-sound (λ o. o .answer .number ≡ perform (fresh one-one) a .answer .number)
-    (λ h. absurd (omega (arith, tidy-long))) (λ h. rw (read-back (fresh one-one) (fair-fresh one-one limits)))
+    call-cases new lent a new-sound (λ o. o .answer .number ≡ perform (fresh one-one) a .answer .number)
+    (λ h. absurd (omega (arith, lent-long))) (λ h. rw (read-back (fresh one-one) (fair-fresh one-one limits)))
 
 -- the card is taken in, and shown it is not held
-entered : outcome new tidy (enter seven 1) .answer .number ≡ 0
+entered : outcome new lent (enter seven 1) .answer .number ≡ 0
 unfolding fresh one-one
 entered =
     on-new (enter seven 1)
     ∙ enter-numbers (fresh one-one) (fresh-good one-one limits) seven 1 .done .1 (seven-valid, fresh-look one-one limits (take 1 seven), omega arith)
 
-missing : outcome new tidy (show seven 1 []) .answer .number ≡ 7
+missing : outcome new lent (show seven 1 []) .answer .number ≡ 7
 missing = on-new (show seven 1 []) ∙ show-numbers (fresh one-one) seven 1 [] (fresh-good one-one limits) .missing .1 (seven-valid, fresh-look one-one limits (take 1 seven))
 
 module _ (p : Program) (honest : Honest p) where
   -- it refuses everything
   pub refuses-everything : ((w scratch : List ℕ) (a : Act) → p w (acting scratch a) .answer .number ≡ 0 → ⊥) → ⊥
-  refuses-everything sham = sham new tidy (enter seven 1) (honest new (acting tidy (enter seven 1)) .answer .number-is ∙ entered)
+  refuses-everything sham = sham new lent (enter seven 1) (honest new (acting lent (enter seven 1)) .answer .number-is ∙ entered)
 
   -- it has one number for every call, even if only for calls with enough scratch on sound words
-  pub constant-answer : (k : ℕ) → ((w scratch : List ℕ) (a : Act) → sound w ≡ true → scratchNeed ≤ length scratch → p w (acting scratch a) .answer .number ≡ k) → ⊥
+  pub constant-answer : (k : ℕ) → ((w scratch : List ℕ) (a : Act) → sound w ≡ true → need (shapeOf w) ≤ length scratch → p w (acting scratch a) .answer .number ≡ k) → ⊥
   constant-answer k sham =
-      let e = honest new (acting tidy (enter seven 1)) .answer .number-is ∙ entered in
-      let m = honest new (acting tidy (show seven 1 [])) .answer .number-is ∙ missing in
-      omega (arith, e, m, sham new tidy (enter seven 1) new-sound tidy-long, sham new tidy (show seven 1 []) new-sound tidy-long)
+      let e = honest new (acting lent (enter seven 1)) .answer .number-is ∙ entered in
+      let m = honest new (acting lent (show seven 1 [])) .answer .number-is ∙ missing in
+      omega (arith, e, m, sham new lent (enter seven 1) new-sound lent-long, sham new lent (show seven 1 []) new-sound lent-long)
 
   -- it changes nothing
   pub changes-nothing : ((w scratch : List ℕ) (a : Act) → p w (acting scratch a) .words ≡ w) → ⊥
   changes-nothing sham =
-      done-changes new tidy (enter seven 1) tt entered (sym (honest new (acting tidy (enter seven 1)) .words-are) ∙ sham new tidy (enter seven 1))
+      done-changes new lent (enter seven 1) tt entered (sym (honest new (acting lent (enter seven 1)) .words-are) ∙ sham new lent (enter seven 1))
 
 -- it works at its first call and then feigns: but in a sequence that meets the contracts each call that is done, and is there to change the store, leaves other
 -- words than it found, the first and every later one
@@ -119,7 +127,7 @@ pub record Counted (s : Store) (a : Act) (g : Given) : Type 0 where
   pub scans : g .answer .number ≡ 0 → g .answer .scanned ≡ scanOf s a
   pub scans-none : (g .answer .number ≡ 0 → ⊥) → g .answer .scanned ≡ 0
 
-pub none-invented : (w : List ℕ) → sound w ≡ true → (scratch : List ℕ) → scratchNeed ≤ length scratch → (a : Act) (g : Given) → Meets w (acting scratch a) g → Counted (decode w) a g
+pub none-invented : (w : List ℕ) → sound w ≡ true → (scratch : List ℕ) → need (shapeOf w) ≤ length scratch → (a : Act) (g : Given) → Meets w (acting scratch a) g → Counted (decode w) a g
 none-invented w ok scratch h a g m =
     let s = decode w in
     let r = sound-good w ok .0 in

@@ -14,7 +14,7 @@ use Rattle.rules.proofs.Tests.{all-of, lt?}
 use Rattle.model.specs.Shape.{Shape}
 use Rattle.model.specs.Lists.{total}
 use Rattle.model.specs.Serial.{validFault}
-use Rattle.model.specs.Layout.{maxpAt, pAt, toFirst, toLast, toCount, toDay, toCode}
+use Rattle.model.specs.Layout.{toFirst, toLast, toCount, toDay, toCode}
 use Rattle.model.specs.Layout.{last, cardWord, faultWord}
 use Rattle.model.specs.Meaning.{times, In, ExactlyOnce, Leads, bucketsIn, bucketWord, nextCard, nextFault, bucketCells, freeCells, historyCells, freeFaultCells, heldCells, filedCells, SoundAs}
 use Rattle.model.proofs.Sums.{bit, total-append, length-total}

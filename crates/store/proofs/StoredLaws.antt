@@ -10,8 +10,7 @@ use lib.ListN.{length, getD, length-map}
 use Rattle.rules.proofs.Tests.{all-of}
 use Rattle.model.specs.Lists.{between, all, join, total}
 use Rattle.model.specs.Model.{Fault, Card, Store, cards, bucket, cellsOf, faultCellsOf}
-use Rattle.model.specs.Layout.{toFirst, toLast, toCount}
-use Rattle.model.specs.Layout.{Cell, atsOf, headOr, chained, cardWidth, faultWidth, segmentsAt, cardsAt, faultsAt, first, last, follow, cardCell, faultCell, cardChains, faultChains, front, cardWord, faultWord, readCard, readChain, decodeAs, decode}
+use Rattle.model.specs.Layout.{toFirst, toLast, toCount, Cell, atsOf, headOr, chained, faultWidth, segmentsAt, cardsAt, faultsAt, first, last, follow, cardCell, faultCell, cardChains, faultChains, front, cardWord, faultWord, readCard, readChain, decodeAs, decode}
 use Rattle.model.specs.Meaning.{Leads, nextCard, nextFault}
 use Rattle.model.proofs.Lists.{between-is, map-append, Every, every-parts, every-join}
 use Rattle.model.proofs.Sums.{bit, bit-same, total-append, total-one}
@@ -26,6 +25,7 @@ use Rattle.model.proofs.Split.{ats-cards}
 use Rattle.store.specs.declared.cells.Header.{Header}
 use Rattle.store.specs.Cells.{shapeIn, Read}
 use Rattle.store.specs.Search.{Ends, faultsFrom}
+use Rattle.model.specs.Shape.{cardWidth}
 
 -- chains of any cells
 

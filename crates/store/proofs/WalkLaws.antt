@@ -1,7 +1,7 @@
 -- Laws of walks over marks. A walk marks each cell it meets and meets no marked one, so each step takes one of the numbers that are
 -- left (`room`): the walk ends within the limit, whatever words it reads, and what it counts is what it takes (`room-walk`). What a
 -- loop keeps is one equation: the walk answers from here what it answers from the start (`Going`; `Holding` for walks one after the
--- other). Whatever a walk answers, it changes no byte behind the first scratchNeed and no mark outside its own numbers (`Kept`).
+-- other). Whatever a walk answers, it changes no byte behind those of its marks and no mark outside its own numbers (`Kept`).
 use mathlib.Core.Path.{_≡_, refl, sym, ap, subst, _∙_}
 use mathlib.Core.Bool.{Bool, true, false, cond, not, _&&_, false≢true}
 use mathlib.Core.Logic.{_⊎_, inl, inr, ⊎-elim}
@@ -13,7 +13,6 @@ use lib.Dec.{leb}
 use lib.ListN.{length, drop}
 use Rattle.rules.proofs.Tests.{by-cases, both, eq?}
 use Rattle.model.specs.Lists.{from}
-use Rattle.model.specs.Calls.{scratchNeed}
 use Rattle.store.specs.Marks.{markAt, markedAt}
 use Rattle.store.specs.Walk.{numberOf, mayCome, Out, accept, refuse, walkFrom, walkOf, Start, Tot, walkOn, walksFrom, Did, DidAll}
 use Rattle.store.proofs.MarkLaws.{length-marked, rest-marked, marked-same, marked-other}
@@ -126,7 +125,7 @@ module _ (good : ℕ → Bool) (next : ℕ → ℕ) (bytes₀ : List ℕ) (base 
       let e′ = sym (g .same) ∙ e in
       record { ok-is = sym (ap (λ (o : Out). o .ok) e′); count-is = sym (ap (λ (o : Out). o .count) e′); last-is = sym (ap (λ (o : Out). o .last) e′); left-is = sym (ap (λ (o : Out). o .bytes) e′) }
 
-  module _ (marks : base + limit ≤ 8 * scratchNeed) (scratch : scratchNeed ≤ length bytes₀) (ne : i ≡ 0 → ⊥) (ok : mayCome good bytes base limit i ≡ true) where
+  module _ {reach : ℕ} (marks : base + limit ≤ 8 * reach) (scratch : reach ≤ length bytes₀) (ne : i ≡ 0 → ⊥) (ok : mayCome good bytes base limit i ≡ true) where
     taken : room base limit bytes ≡ suc (room base limit (markedAt bytes (numberOf base i)))
     taken = room-mark base limit (i - 1) bytes (omega (arith, may-in good base limit bytes i ok)) (omega (arith, may-in good base limit bytes i ok)) (may-new good base limit bytes i ok)
 
@@ -159,24 +158,24 @@ walk-all P good next base limit ends stops goes (suc f) bytes i n l =
     (λ ok. subst (P (suc f) bytes i n l) (sym (walk-step good next base limit bytes i n l f ne ok)) (goes f bytes i n l _ ne ok rest))
     (λ bad. subst (P (suc f) bytes i n l) (sym (walk-bad good next base limit bytes i n l (suc f) ne bad)) (stops (suc f) bytes i n l))) (eq? i 0)
 
--- what a walk keeps, whatever it answers
-pub record Kept (base limit : ℕ) (bytes left : List ℕ) : Type 0 where
+-- what a walk whose marks stand in the first `reach` bytes keeps, whatever it answers
+pub record Kept (reach base limit : ℕ) (bytes left : List ℕ) : Type 0 where
   pub long : length left ≡ length bytes
-  pub rest : drop scratchNeed left ≡ drop scratchNeed bytes
+  pub rest : drop reach left ≡ drop reach bytes
   pub apart : (k : ℕ) → (k < base) ⊎ (base + limit ≤ k) → markAt left k ≡ markAt bytes k
 
-pub kept-none : (base limit : ℕ) (bytes : List ℕ) → Kept base limit bytes bytes
-kept-none base limit bytes = record { long = refl; rest = refl; apart = λ k h. refl }
+pub kept-none : (reach base limit : ℕ) (bytes : List ℕ) → Kept reach base limit bytes bytes
+kept-none reach base limit bytes = record { long = refl; rest = refl; apart = λ k h. refl }
 
-pub kept-both : (base limit : ℕ) (a b c : List ℕ) → Kept base limit a b → Kept base limit b c → Kept base limit a c
-kept-both base limit a b c p q = record { long = q .long ∙ p .long; rest = q .rest ∙ p .rest; apart = λ k h. q .apart k h ∙ p .apart k h }
+pub kept-both : (reach base limit : ℕ) (a b c : List ℕ) → Kept reach base limit a b → Kept reach base limit b c → Kept reach base limit a c
+kept-both reach base limit a b c p q = record { long = q .long ∙ p .long; rest = q .rest ∙ p .rest; apart = λ k h. q .apart k h ∙ p .apart k h }
 
-module _ (base limit : ℕ) (marks : base + limit ≤ 8 * scratchNeed) where
-  kept-mark : (bytes : List ℕ) (i : ℕ) → scratchNeed ≤ length bytes → (i ≡ 0 → ⊥) → i ≤ limit → Kept base limit bytes (markedAt bytes (numberOf base i))
+module _ (reach base limit : ℕ) (marks : base + limit ≤ 8 * reach) where
+  kept-mark : (bytes : List ℕ) (i : ℕ) → reach ≤ length bytes → (i ≡ 0 → ⊥) → i ≤ limit → Kept reach base limit bytes (markedAt bytes (numberOf base i))
   kept-mark bytes i scratch ne h =
       record {
         long = length-marked bytes (numberOf base i);
-        rest = rest-marked bytes (numberOf base i) (omega arith);
+        rest = rest-marked bytes (numberOf base i) reach (omega arith);
         apart = λ k out. marked-other bytes (numberOf base i) (omega arith) k (λ e. outside k e out);
       }
     where
@@ -185,24 +184,24 @@ module _ (base limit : ℕ) (marks : base + limit ≤ 8 * scratchNeed) where
       outside k e (inr a) = omega arith
 
   module _ (good : ℕ → Bool) (next : ℕ → ℕ) where
-    pub kept-walk : (bytes : List ℕ) (first : ℕ) → scratchNeed ≤ length bytes → Kept base limit bytes (walkOf good next base limit bytes first .bytes)
+    pub kept-walk : (bytes : List ℕ) (first : ℕ) → reach ≤ length bytes → Kept reach base limit bytes (walkOf good next base limit bytes first .bytes)
     unfolding walkOf
     kept-walk bytes first =
-        walk-all (λ f bytes i n l o. scratchNeed ≤ length bytes → Kept base limit bytes (o .bytes)) good next base limit
-        (λ f bytes i n l z scratch. kept-none base limit bytes)
-        (λ f bytes i n l scratch. kept-none base limit bytes)
+        walk-all (λ f bytes i n l o. reach ≤ length bytes → Kept reach base limit bytes (o .bytes)) good next base limit
+        (λ f bytes i n l z scratch. kept-none reach base limit bytes)
+        (λ f bytes i n l scratch. kept-none reach base limit bytes)
         (λ f bytes i n l o ne ok rest scratch.
         let h = kept-mark bytes i scratch ne (may-in good base limit bytes i ok) in
-        kept-both base limit bytes (markedAt bytes (numberOf base i)) (o .bytes) h (rest (omega arith)))
+        kept-both reach base limit bytes (markedAt bytes (numberOf base i)) (o .bytes) h (rest (omega arith)))
         limit bytes first 0 0
 
     -- a walk that accepts takes as many of the numbers as it counts
-    pub room-walk : (bytes : List ℕ) (first : ℕ) → scratchNeed ≤ length bytes → walkOf good next base limit bytes first .ok ≡ true
+    pub room-walk : (bytes : List ℕ) (first : ℕ) → reach ≤ length bytes → walkOf good next base limit bytes first .ok ≡ true
         → room base limit bytes ≡ walkOf good next base limit bytes first .count + room base limit (walkOf good next base limit bytes first .bytes)
     unfolding walkOf
     room-walk bytes first scratch ok =
         let r =
-        walk-all (λ f bytes i n l o. scratchNeed ≤ length bytes → o .ok ≡ true → n + room base limit bytes ≡ o .count + room base limit (o .bytes)) good next base limit
+        walk-all (λ f bytes i n l o. reach ≤ length bytes → o .ok ≡ true → n + room base limit bytes ≡ o .count + room base limit (o .bytes)) good next base limit
         (λ f bytes i n l z scratch ok. refl)
         (λ f bytes i n l scratch ok. absurd (false≢true ok))
         (λ f bytes i n l o ne ok rest scratch e.
@@ -230,13 +229,13 @@ module _ (next : ℕ → ℕ) (base limit : ℕ) where
   walks-end bytes n = refl
 
   -- whatever they answer, walks keep what one keeps
-  pub kept-walks : base + limit ≤ 8 * scratchNeed → (ss : List Start) (bytes : List ℕ) (n : ℕ) → scratchNeed ≤ length bytes → Kept base limit bytes (walksFrom next base limit ss bytes n .bytes)
-  kept-walks marks [] bytes n scratch = rw (walks-end bytes n) (kept-none base limit bytes)
-  kept-walks marks (s ∷ ss) bytes n scratch =
+  pub kept-walks : (reach : ℕ) → base + limit ≤ 8 * reach → (ss : List Start) (bytes : List ℕ) (n : ℕ) → reach ≤ length bytes → Kept reach base limit bytes (walksFrom next base limit ss bytes n .bytes)
+  kept-walks reach marks [] bytes n scratch = rw (walks-end bytes n) (kept-none reach base limit bytes)
+  kept-walks reach marks (s ∷ ss) bytes n scratch =
       let o = walkOn next base limit bytes s in
-      let k = kept-walk base limit marks (s .good) next bytes (s .first) scratch in
+      let k = kept-walk reach base limit marks (s .good) next bytes (s .first) scratch in
       by-cases (o .ok && s .fits (o .count) (o .last))
-      (λ e. rw (walks-step s ss bytes n e) (kept-both base limit bytes (o .bytes) _ k (kept-walks marks ss (o .bytes) (n + o .count) (omega arith))))
+      (λ e. rw (walks-step s ss bytes n e) (kept-both reach base limit bytes (o .bytes) _ k (kept-walks reach marks ss (o .bytes) (n + o .count) (omega arith))))
       (λ e. rw (walks-bad s ss bytes n e) k)
 
 -- what a loop over the chains start j, start (j + 1), .. keeps: what the walks answer from here is what they answer from the start
@@ -282,15 +281,15 @@ module _ (chain : ℕ → Start) (next : ℕ → ℕ) (bytes₀ : List ℕ) (bas
         (sym one-more ∙ walks-bad next base limit (chain j) (map chain (from (suc j) (held - (j + 1)))) bytes total (same-fits false e)
         ∙ ap (λ (b : List ℕ). record { ok = false; total = 0; bytes = b }) (sym (d .left-is)))
 
-    module _ (marks : base + limit ≤ 8 * scratchNeed) (scratch : scratchNeed ≤ length bytes₀) where
+    module _ {reach : ℕ} (marks : base + limit ≤ 8 * reach) (scratch : reach ≤ length bytes₀) where
       pub kept-long : length left ≡ length bytes₀
-      kept-long = ap length (d .left-is) ∙ kept-walk base limit marks (chain j .good) next bytes (chain j .first) (omega arith) .long ∙ g .long
+      kept-long = ap length (d .left-is) ∙ kept-walk reach base limit marks (chain j .good) next bytes (chain j .first) (omega arith) .long ∙ g .long
 
       module _ (e : (ok && chain j .fits n l) ≡ true) where
         spent : room base limit bytes ≡ n + room base limit left
         spent =
             rw (d .count-is, d .left-is)
-            (room-walk base limit marks (chain j .good) next bytes (chain j .first) (omega arith) (sym (d .ok-is) ∙ both ok (chain j .fits n l) e .0))
+            (room-walk reach base limit marks (chain j .good) next bytes (chain j .first) (omega arith) (sym (d .ok-is) ∙ both ok (chain j .fits n l) e .0))
 
         pub total-le : total + n ≤ limit
         total-le = omega (arith, spent)

@@ -15,7 +15,6 @@ use Rattle.rules.proofs.Tests.{by-cases, both, all-of, eq?}
 use Rattle.model.specs.Lists.{join, total}
 use Rattle.model.specs.Layout.{follow, last}
 use Rattle.model.specs.Meaning.{Leads}
-use Rattle.model.specs.Calls.{scratchNeed}
 use Rattle.model.proofs.Chains.{follow-none, follow-step}
 use Rattle.model.proofs.Lists.{Every}
 use Rattle.model.proofs.Sums.{bit, bit-le, bit-same, bit-other, count, total-append}
@@ -39,9 +38,9 @@ Apart limit l seen = (x : ℕ) → 1 ≤ x → x ≤ limit → count x l + count
 abbrev pub Seen : ℕ → ℕ → List ℕ → List ℕ → Type 0
 Seen base limit bytes seen = (x : ℕ) → 1 ≤ x → x ≤ limit → count x seen ≡ bit (markAt bytes (numberOf base x))
 
-module _ (next : ℕ → ℕ) (base limit : ℕ) (marks : base + limit ≤ 8 * scratchNeed) where
+module _ (next : ℕ → ℕ) (reach base limit : ℕ) (marks : base + limit ≤ 8 * reach) where
   -- a cell that is marked now is one more of the list
-  seen-more : (bytes seen : List ℕ) (i : ℕ) → scratchNeed ≤ length bytes → 1 ≤ i → i ≤ limit → markAt bytes (numberOf base i) ≡ false
+  seen-more : (bytes seen : List ℕ) (i : ℕ) → reach ≤ length bytes → 1 ≤ i → i ≤ limit → markAt bytes (numberOf base i) ≡ false
       → Seen base limit bytes seen → Seen base limit (markedAt bytes (numberOf base i)) (i ∷ seen)
   seen-more bytes seen i long a b new s x x₁ xₗ =
       ⊎-elim (λ (e : x ≡ i). here e)
@@ -84,17 +83,17 @@ module _ (next : ℕ → ℕ) (base limit : ℕ) (marks : base + limit ≤ 8 * s
               λ x a b. omega (arith, m .left x a b, total-append (λ (y : ℕ). bit (eqb x y)) cells (i ∷ seen), total-append (λ (y : ℕ). bit (eqb x y)) cells seen);
         }
 
-    accepted-from : (f : ℕ) (bytes : List ℕ) (i n l : ℕ) (seen : List ℕ) → scratchNeed ≤ length bytes → Seen base limit bytes seen
+    accepted-from : (f : ℕ) (bytes : List ℕ) (i n l : ℕ) (seen : List ℕ) → reach ≤ length bytes → Seen base limit bytes seen
         → walkFrom f good next base limit bytes i n l .ok ≡ true → Met good i n l (follow f next i) seen (walkFrom f good next base limit bytes i n l)
     accepted-from =
-        walk-all (λ f bytes i n l o. (seen : List ℕ) → scratchNeed ≤ length bytes → Seen base limit bytes seen → o .ok ≡ true → Met good i n l (follow f next i) seen o) good next base limit
+        walk-all (λ f bytes i n l o. (seen : List ℕ) → reach ≤ length bytes → Seen base limit bytes seen → o .ok ≡ true → Met good i n l (follow f next i) seen o) good next base limit
         (λ f bytes i n l z seen long s ok. rw (follow-none f next i z) (met-none bytes seen i n l z s))
         (λ f bytes i n l seen long s ok. absurd (false≢true ok))
         (λ f bytes i n l o ne may rest seen long s ok. rw (follow-step f next i ne)
         (met-more bytes seen i n l (follow f next (next i)) o ne may
         (rest (i ∷ seen) (omega (arith, length-marked bytes (numberOf base i))) (seen-more bytes seen i long (omega arith) (may-in good base limit bytes i may) (may-new good base limit bytes i may) s) ok)))
 
-    accepts-from : (f : ℕ) (bytes : List ℕ) (i n l : ℕ) (seen : List ℕ) → scratchNeed ≤ length bytes → Seen base limit bytes seen
+    accepts-from : (f : ℕ) (bytes : List ℕ) (i n l : ℕ) (seen : List ℕ) → reach ≤ length bytes → Seen base limit bytes seen
         → Runs good next limit i (follow f next i) → Apart limit (follow f next i) seen → walkFrom f good next base limit bytes i n l .ok ≡ true
     unfolding follow
     accepts-from zero bytes i n l seen long s r a = rw (walk-end good next base limit bytes i n l zero (r .leads))
@@ -108,7 +107,7 @@ module _ (next : ℕ → ℕ) (base limit : ℕ) (marks : base + limit ≤ 8 * s
         unmarked false e = refl
 
         go : (i ≡ 0 → ⊥) → Runs good next limit i (i ∷ follow f next (next i)) → Apart limit (i ∷ follow f next (next i)) seen
-            → (scratchNeed ≤ length (markedAt bytes (numberOf base i)) → Seen base limit (markedAt bytes (numberOf base i)) (i ∷ seen)
+            → (reach ≤ length (markedAt bytes (numberOf base i)) → Seen base limit (markedAt bytes (numberOf base i)) (i ∷ seen)
             → Runs good next limit (next i) (follow f next (next i)) → Apart limit (follow f next (next i)) (i ∷ seen)
             → walkFrom f good next base limit (markedAt bytes (numberOf base i)) (next i) (n + 1) i .ok ≡ true)
             → walkFrom (suc f) good next base limit bytes i n l .ok ≡ true
@@ -121,12 +120,12 @@ module _ (next : ℕ → ℕ) (base limit : ℕ) (marks : base + limit ≤ 8 * s
             (record { leads = r .leads .1; inside = r .inside .1; fine = r .fine .1 }) (λ x p q. omega (arith, a x p q))
 
     -- a walk that accepts met the cells that are read from its first one, and no other
-    pub accepted : (bytes : List ℕ) (first : ℕ) (seen : List ℕ) → scratchNeed ≤ length bytes → Seen base limit bytes seen → walkOf good next base limit bytes first .ok ≡ true
+    pub accepted : (bytes : List ℕ) (first : ℕ) (seen : List ℕ) → reach ≤ length bytes → Seen base limit bytes seen → walkOf good next base limit bytes first .ok ≡ true
         → Met good first 0 0 (follow limit next first) seen (walkOf good next base limit bytes first)
     unfolding walkOf
     accepted bytes first seen long s ok = accepted-from limit bytes first 0 0 seen long s ok
 
-    pub accepts : (bytes : List ℕ) (first : ℕ) (seen : List ℕ) → scratchNeed ≤ length bytes → Seen base limit bytes seen
+    pub accepts : (bytes : List ℕ) (first : ℕ) (seen : List ℕ) → reach ≤ length bytes → Seen base limit bytes seen
         → Runs good next limit first (follow limit next first) → Apart limit (follow limit next first) seen → walkOf good next base limit bytes first .ok ≡ true
     unfolding walkOf
     accepts bytes first seen long s r a = accepts-from limit bytes first 0 0 seen long s r a
@@ -139,16 +138,16 @@ pub record Right (next : ℕ → ℕ) (limit : ℕ) (s : Start) : Type 0 where
   pub runs : Runs (s .good) next limit (s .first) (read next limit s)
   pub fits : s .fits (length (read next limit s)) (last (read next limit s)) ≡ true
 
-module _ (next : ℕ → ℕ) (base limit : ℕ) (marks : base + limit ≤ 8 * scratchNeed) where
+module _ (next : ℕ → ℕ) (reach base limit : ℕ) (marks : base + limit ≤ 8 * reach) where
   -- the test behind a walk, of what the walk answers and of what is read
-  fits-is : (bytes : List ℕ) (s : Start) (seen : List ℕ) → Met next base limit marks (s .good) (s .first) 0 0 (read next limit s) seen (walkOn next base limit bytes s)
+  fits-is : (bytes : List ℕ) (s : Start) (seen : List ℕ) → Met next reach base limit marks (s .good) (s .first) 0 0 (read next limit s) seen (walkOn next base limit bytes s)
       → s .fits (walkOn next base limit bytes s .count) (walkOn next base limit bytes s .last) ≡ s .fits (length (read next limit s)) (last (read next limit s))
   fits-is bytes s seen m =
       let c : walkOn next base limit bytes s .count ≡ length (read next limit s) = omega (arith, m .counted) in
       let l : walkOn next base limit bytes s .last ≡ last (read next limit s) = m .ended ∙ last-after-none (read next limit s) in
       λ i. s .fits (c i) (l i)
 
-  pub walks-accepted : (ss : List Start) (bytes : List ℕ) (n : ℕ) (seen : List ℕ) → scratchNeed ≤ length bytes → Seen base limit bytes seen → walksFrom next base limit ss bytes n .ok ≡ true
+  pub walks-accepted : (ss : List Start) (bytes : List ℕ) (n : ℕ) (seen : List ℕ) → reach ≤ length bytes → Seen base limit bytes seen → walksFrom next base limit ss bytes n .ok ≡ true
       → Every (Right next limit) ss × Apart limit (join (map (read next limit) ss)) seen × (walksFrom next base limit ss bytes n .total ≡ n + length (join (map (read next limit) ss)))
   walks-accepted [] bytes n seen long s ok =
       (tt, λ x a b. omega (arith, s x a b, bit-le (markAt bytes (numberOf base x))), ap (λ (t : Tot). t .total) (walks-end next base limit bytes n) ∙ omega arith)
@@ -157,9 +156,9 @@ module _ (next : ℕ → ℕ) (base limit : ℕ) (marks : base + limit ≤ 8 * s
       by-cases (o .ok && c .fits (o .count) (o .last))
       (λ e.
       let t = both (o .ok) (c .fits (o .count) (o .last)) e in
-      let m = accepted next base limit marks (c .good) bytes (c .first) seen long s (t .0) in
+      let m = accepted next reach base limit marks (c .good) bytes (c .first) seen long s (t .0) in
       let step = walks-step next base limit c cs bytes n e in
-      let r = walks-accepted cs (o .bytes) (n + o .count) (read next limit c ++ seen) (omega (arith, kept-walk base limit marks (c .good) next bytes (c .first) long)) (m .left)
+      let r = walks-accepted cs (o .bytes) (n + o .count) (read next limit c ++ seen) (omega (arith, kept-walk reach base limit marks (c .good) next bytes (c .first) long)) (m .left)
       (sym (ap (λ (t : Tot). t .ok) step) ∙ ok) in (
         (record { runs = m .runs; fits = sym (fits-is bytes c seen m) ∙ t .1 }, r .0),
         λ x a b. omega (arith, r .1 x a b, total-append (λ (y : ℕ). bit (eqb x y)) (read next limit c) seen, total-append (λ (y : ℕ). bit (eqb x y)) (read next limit c) (join (map (read next limit) cs))),
@@ -167,15 +166,15 @@ module _ (next : ℕ → ℕ) (base limit : ℕ) (marks : base + limit ≤ 8 * s
       ))
       (λ e. absurd (false≢true (sym (ap (λ (t : Tot). t .ok) (walks-bad next base limit c cs bytes n e)) ∙ ok)))
 
-  pub walks-accept : (ss : List Start) (bytes : List ℕ) (n : ℕ) (seen : List ℕ) → scratchNeed ≤ length bytes → Seen base limit bytes seen
+  pub walks-accept : (ss : List Start) (bytes : List ℕ) (n : ℕ) (seen : List ℕ) → reach ≤ length bytes → Seen base limit bytes seen
       → Every (Right next limit) ss → Apart limit (join (map (read next limit) ss)) seen → walksFrom next base limit ss bytes n .ok ≡ true
   walks-accept [] bytes n seen long s r a = ap (λ (t : Tot). t .ok) (walks-end next base limit bytes n)
   walks-accept (c ∷ cs) bytes n seen long s r a =
       let o = walkOn next base limit bytes c in
       let here : (x : ℕ) → count x (read next limit c ++ join (map (read next limit) cs)) ≡ count x (read next limit c) + count x (join (map (read next limit) cs)) =
       λ x. total-append (λ (y : ℕ). bit (eqb x y)) (read next limit c) (join (map (read next limit) cs)) in
-      let ok = accepts next base limit marks (c .good) bytes (c .first) seen long s (r .0 .runs) (λ x p q. omega (arith, a x p q, here x)) in
-      let m = accepted next base limit marks (c .good) bytes (c .first) seen long s ok in
+      let ok = accepts next reach base limit marks (c .good) bytes (c .first) seen long s (r .0 .runs) (λ x p q. omega (arith, a x p q, here x)) in
+      let m = accepted next reach base limit marks (c .good) bytes (c .first) seen long s ok in
       ap (λ (t : Tot). t .ok) (walks-step next base limit c cs bytes n (all-of ok (fits-is bytes c seen m ∙ r .0 .fits)))
-      ∙ walks-accept cs (o .bytes) (n + o .count) (read next limit c ++ seen) (omega (arith, kept-walk base limit marks (c .good) next bytes (c .first) long)) (m .left) (r .1)
+      ∙ walks-accept cs (o .bytes) (n + o .count) (read next limit c ++ seen) (omega (arith, kept-walk reach base limit marks (c .good) next bytes (c .first) long)) (m .left) (r .1)
       (λ x p q. omega (arith, a x p q, here x, total-append (λ (y : ℕ). bit (eqb x y)) (read next limit c) seen))

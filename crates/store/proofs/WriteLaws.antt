@@ -12,9 +12,8 @@ use lib.ListN.{length, getD, set, take, drop, replicate, length-set}
 use lib.Seq.{sets, take-set-le, take-set-lt, drop-set-lt, drop-set-add}
 use borrow.Author.Tests.{eq-eqb, ne-eqb}
 use borrow.Rule.Slice.PartMut.{midOf, putMid, mid-len, put-same, set-mid-at}
-use Rattle.model.specs.Shape.{Shape}
-use Rattle.model.specs.Layout.{heldAt, faultsHeldAt, freeAt, freeFaultsAt, toNext, toFirst, toLast, toCount}
-use Rattle.model.specs.Layout.{segmentsAt, cardWidth, faultWidth, cardsAt, faultsAt, cellAt, packed, cardWord, faultWord}
+use Rattle.model.specs.Shape.{Shape, cardWidth}
+use Rattle.model.specs.Layout.{heldAt, faultsHeldAt, freeAt, freeFaultsAt, toNext, toFirst, toLast, toCount, segmentsAt, faultWidth, faultsAt, cellAt, packed, cardWord, faultWord}
 use Rattle.model.specs.Serial.{validSerial}
 use Rattle.model.specs.Words.{cardAt, faultAt, linkAt, newWords, placeWords, fileWords, giveWords, removeWords}
 use Rattle.store.specs.declared.cells.Header.{Header}

@@ -8,10 +8,9 @@ use lib.ListN.{length, take, getD}
 use Rattle.rules.specs.Code.{codeOf}
 use Rattle.rules.specs.Table.{top, addressOf}
 use Rattle.model.specs.Lists.{between, all, from}
-use Rattle.model.specs.Shape.{segmentSize, Shape, topOf}
+use Rattle.model.specs.Shape.{segmentSize, Shape, topOf, cardWidth, cardsEver, faultsEver, need}
 use Rattle.model.specs.Serial.{validSerial, validFault}
-use Rattle.model.specs.Layout.{maxpAt, pAt, toNext, toLength, toSerial, toDay, toCode}
-use Rattle.model.specs.Layout.{farthest, leastEntries, leastWidth, mostCards, mostFaults, directoryAt, segmentsAt, cardWidth, faultWidth, cardsAt, faultsAt, lengthFor, shapeOk, shapeOf, cardWord, faultWord, packed, bytesOf}
+use Rattle.model.specs.Layout.{maxpAt, pAt, toNext, toLength, toSerial, toDay, toCode, farthest, leastEntries, leastWidth, directoryAt, segmentsAt, faultWidth, cardsAt, faultsAt, lengthFor, shapeOk, shapeOf, cardWord, faultWord, packed, bytesOf}
 use Rattle.model.specs.Calls.{Terms}
 use Rattle.store.specs.declared.front.Shape as told
 use Rattle.store.specs.declared.cells.Header.{Header}
@@ -41,8 +40,9 @@ pub record Room (w : List ℕ) (h : Header) : Type 0 where
   pub wide : leastWidth ≤ h .width
   pub cards : 1 ≤ h .cards
   pub faults : 1 ≤ h .faults
-  pub mostCards : h .cards ≤ mostCards
-  pub mostFaults : h .faults ≤ mostFaults
+  pub mostCards : h .cards ≤ cardsEver
+  pub mostFaults : h .faults ≤ faultsEver
+  pub marks : h .cards + h .faults ≤ 8 * need (shapeIn h)
 
 -- the words are as long as the header's shape asks, and the header says where the parts begin; `room` is what follows in numbers. Of the
 -- words this looks at their length alone, so that no write disturbs it

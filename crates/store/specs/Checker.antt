@@ -7,10 +7,8 @@ use lib.Dec.{eqb, leb, ltb}
 use lib.ListN.{length, drop, getD}
 use Rattle.rules.specs.Table.{least, stateOk}
 use Rattle.model.specs.Lists.{all, from}
-use Rattle.model.specs.Shape.{Shape, segmentSize, entries, topOf}
-use Rattle.model.specs.Layout.{maxpAt, pAt, heldAt, faultsHeldAt, freeAt, freeFaultsAt, directoryOffsetAt, segmentsOffsetAt, cardsOffsetAt, faultsOffsetAt, wholeLengthAt, boundsAt, ruleAt, toNext, toFirst, toLast, toCount}
-use Rattle.model.specs.Layout.{directoryAt, segmentsAt, cardsAt, faultsAt, lengthFor, boundsWord, ruleWord, shapeOk, shapeOf, cardWord}
-use Rattle.model.specs.Calls.{scratchNeed}
+use Rattle.model.specs.Shape.{Shape, segmentSize, entries, topOf, need}
+use Rattle.model.specs.Layout.{maxpAt, pAt, heldAt, faultsHeldAt, freeAt, freeFaultsAt, directoryOffsetAt, segmentsOffsetAt, cardsOffsetAt, faultsOffsetAt, wholeLengthAt, boundsAt, ruleAt, toNext, toFirst, toLast, toCount, directoryAt, segmentsAt, cardsAt, faultsAt, lengthFor, boundsWord, ruleWord, shapeOk, shapeOf, cardWord}
 use Rattle.store.specs.Cells.{shapeIn, Read, cellWord, limitOf, cellFits}
 use Rattle.store.specs.declared.cells.Header.{Header}
 use Rattle.store.specs.declared.cells.Chain.{Chain}
@@ -86,8 +84,8 @@ reachOf sh faults = cond faults (sh .limit) (topOf sh)
 pub record Asks (w bytes : List ℕ) (h : Header) (faults : Bool) (base limit : ℕ) : Type 0 where
   pub read : Read w h
   pub cells : limit ≡ limitOf (shapeIn h) faults
-  pub marks : base + limit ≤ 8 * scratchNeed
-  pub scratch : scratchNeed ≤ length bytes
+  pub marks : base + limit ≤ 8 * need (shapeIn h)
+  pub scratch : need (shapeIn h) ≤ length bytes
 
 -- the walks of the first n such chains
 unfoldable pub chainsOf : Shape → List ℕ → Bool → ℕ → List ℕ → Tot
@@ -132,4 +130,4 @@ checked w bytes =
 -- what the program answers is `checked`, and no byte behind the marks has changed
 pub record DidCheck (w bytes : List ℕ) (ok : Bool) (left : List ℕ) : Type 0 where
   pub ok-is : ok ≡ checked w bytes
-  pub rest : drop scratchNeed left ≡ drop scratchNeed bytes
+  pub rest : drop (need (shapeOf w)) left ≡ drop (need (shapeOf w)) bytes

@@ -3,7 +3,7 @@ use mathlib.Core.Path.{_≡_}
 use mathlib.Core.List.{List}
 use Prim.Native.Nat.{ℕ}
 use Rattle.model.specs.Layout.{encode}
-use Rattle.model.specs.Calls.{Answer, Outcome, Step, Opened}
+use Rattle.model.specs.Calls.{Answer, Outcome, Step, Opened, admission, swept}
 use Rattle.store.specs.declared.Answer as given
 
 -- number, comparisons, cards scanned and faults are those of an answer
@@ -16,6 +16,11 @@ pub record Gives (a : Answer) (r : given.Answer) : Type 0 where
 -- the answer of a call that is refused before it looks at the serial
 abbrev pub turned : ℕ → given.Answer
 turned k = record { number = k; comparisons = 0; scanned = 0; faults = 0 }
+
+-- what every call asks first: its number, and the scratch afterwards
+pub record Admits (w scratch : List ℕ) (number : ℕ) (left : List ℕ) : Type 0 where
+  pub number-is : number ≡ admission w scratch
+  pub scratch-is : left ≡ swept w scratch
 
 -- an entry point: the answer, and all that store, room and scratch hold afterwards
 pub record Leaves (o : Outcome) (r : given.Answer) (words room scratch : List ℕ) : Type 0 where

@@ -3,8 +3,8 @@ ghost use mathlib.Core.Path.{_≡_};
 ghost use mathlib.Core.Bool.{true};
 ghost use Prim.Native.Nat.{_+_, _≤_, _<_};
 ghost use lib.ListN.{length};
-ghost use Rattle.model.specs.Shape.{topOf};
-ghost use Rattle.model.specs.Layout.{directoryAt, segmentsAt, cardWidth, cardsAt, faultsAt, lengthFor, farthest, limitsOk, formatOk, boundsWord, ruleWord, shapeOk, shapeOf};
+ghost use Rattle.model.specs.Shape.{topOf, cardWidth, mostCards, mostFaults, need};
+ghost use Rattle.model.specs.Layout.{directoryAt, segmentsAt, cardsAt, faultsAt, lengthFor, farthest, limitsOk, formatOk, boundsWord, ruleWord, shapeOk, shapeOf};
 ghost use Rattle.model.specs.Calls.{shapeFor};
 ghost use Rattle.store.specs.Cells.{shapeBy, shapeIn, asked, Sized, Read};
 ghost use Rattle.store.specs.Checker.{limitsFit, endsFit, offsetsFit, loadFits, entryFor, directoryFits, restFits, tableFits, frontFits};
@@ -62,14 +62,36 @@ fn format_ok(s: Shape) -> bool
     s.lower == layout::LOWER
 }
 
-// C is 1 to 1,024 and F is 1 to 2,048.
-pub fn limits_ok(c: u32, f: u32) -> bool
-    ensures { λ r. ⌜ r ≡ limitsOk c f ⌝ }
+// The highest limits.
+fn most_cards(s: Shape) -> u32
+    ensures { λ r. ⌜ r ≡ mostCards (shapeBy s) ⌝ }
 {
-    if !serial::within(1, layout::MOST_CARDS, c) {
+    layout::MOST_CARDS
+}
+
+fn most_faults(s: Shape) -> u32
+    ensures { λ r. ⌜ r ≡ mostFaults (shapeBy s) ⌝ }
+{
+    layout::MOST_FAULTS
+}
+
+// The bytes of scratch that the checker takes for these words, whatever they hold.
+pub fn need(w: &[u32]) -> usize
+    ensures { λ r. ⌜ r ≡ need (shapeOf (now (w .entry))) ⌝ }
+{
+    layout::NEED
+}
+
+// C and F are 1 to the highest of the format.
+pub fn limits_ok(s: Shape) -> bool
+    ensures { λ r. ⌜ r ≡ limitsOk (shapeBy s) ⌝ }
+{
+    let c = s.cards;
+    let f = s.faults;
+    if !serial::within(1, most_cards(s), c) {
         return false;
     }
-    serial::within(1, layout::MOST_FAULTS, f)
+    serial::within(1, most_faults(s), f)
 }
 
 // The shapes that there are.
@@ -79,7 +101,7 @@ fn shape_ok(s: Shape) -> bool
     if !format_ok(s) {
         return false;
     }
-    limits_ok(s.cards, s.faults)
+    limits_ok(s)
 }
 
 // The most buckets, and the words of a card cell.

@@ -5,6 +5,9 @@ pub const MOST_CARDS: u32 = 1024;
 
 pub const MOST_FAULTS: u32 = 2048;
 
+// The bytes of scratch that the checker takes: a bit for each cell at these limits.
+pub const NEED: usize = (MOST_CARDS + MOST_FAULTS) as usize / 8;
+
 // Words 0 to 2 of the header: format, C, F.
 pub const FORMAT_AT: usize = 0;
 

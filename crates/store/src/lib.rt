@@ -3,10 +3,12 @@ ghost use mathlib.Core.Path.{_≡_};
 ghost use mathlib.Core.List.{[]};
 ghost use Prim.Native.Nat.{_≤_};
 ghost use lib.ListN.{length};
-ghost use Rattle.model.specs.Layout.{sound};
-ghost use Rattle.model.specs.Calls.{scratchNeed, cleaned, openCall, enterCall, fileCall, showCall, withdrawCall};
+ghost use Rattle.model.specs.Shape.{need};
+ghost use Rattle.model.specs.Layout.{shapeOf, sound};
+ghost use Rattle.model.specs.Calls.{cleaned, openCall};
+ghost use Rattle.model.specs.Runs.{Act, outcome};
 ghost use Rattle.store.specs.Cells.{asked};
-ghost use Rattle.store.specs.Leaves.{Leaves, Opens, turned};
+ghost use Rattle.store.specs.Leaves.{Leaves, Opens, Admits, turned};
 
 mod cells;
 pub mod enters;
@@ -25,7 +27,8 @@ mod walks;
 pub mod withdraws;
 mod writes;
 
-pub use marks::NEED;
+pub use front::need;
+pub use layout::NEED;
 pub use marks::clear;
 
 // What each of the four calls gives.
@@ -41,10 +44,10 @@ pub struct Answer {
 pub fn open(words: &mut [u32], cards: u32, faults: u32) -> u32
     ensures { λ r. ⌜ Opens (openCall (now (words .entry)) (asked cards faults)) r (now (words .exit)) ⌝ }
 {
-    if !front::limits_ok(cards, faults) {
+    let s = front::shape_for(cards, faults);
+    if !front::limits_ok(s) {
         return 1;
     }
-    let s = front::shape_for(cards, faults);
     if words.len() != front::length_for(s) {
         return 2;
     }
@@ -52,16 +55,31 @@ pub fn open(words: &mut [u32], cards: u32, faults: u32) -> u32
     0
 }
 
-// Whether any words, of any length and with any content, are those of a sound store. The first 384 bytes of scratch
-// end zero, the rest as they were.
+// Whether any words, of any length and with any content, are those of a sound store. The bytes of scratch that it
+// takes, `need` of the words, end zero, the rest as they were.
 pub fn check(words: &[u32], scratch: &mut [u8]) -> bool
-    requires { ⌜ scratchNeed ≤ length (now scratch) ⌝ }
-    ensures { λ r. ⌜ (r ≡ sound (now (words .entry))) × (now (scratch .exit) ≡ cleaned (now (scratch .entry))) ⌝ }
+    requires { ⌜ need (shapeOf (now words)) ≤ length (now scratch) ⌝ }
+    ensures { λ r. ⌜ (r ≡ sound (now (words .entry))) × (now (scratch .exit) ≡ cleaned (need (shapeOf (now (words .entry)))) (now (scratch .entry))) ⌝ }
 {
-    marks::clear(scratch);
+    let n = front::need(words);
+    marks::clear(scratch, n);
     let ok = parts::all_fit(words, scratch);
-    marks::clear(scratch);
+    marks::clear(scratch, n);
     ok
+}
+
+// What every call asks first, of any words and scratch: 11 where the scratch is shorter than the words need, then 3 where they are
+// not those of a sound store, else 0. Under 11 the scratch stays, else the bytes that the check takes end zero.
+pub fn admit(words: &[u32], scratch: &mut [u8]) -> u32
+    ensures { λ r. ⌜ Admits (now (words .entry)) (now (scratch .entry)) r (now (scratch .exit)) ⌝ }
+{
+    if scratch.len() < front::need(words) {
+        return 11;
+    }
+    if !check(words, scratch) {
+        return 3;
+    }
+    0
 }
 
 // The answer of a call that is refused before it looks at the serial.
@@ -78,13 +96,11 @@ fn turned_away(number: u32) -> Answer
 
 // Enters a card with this serial, at the end of its bucket's chain.
 pub fn enter(words: &mut [u32], scratch: &mut [u8], serial: [u8; 16], len: usize) -> Answer
-    ensures { λ r. ⌜ Leaves (enterCall (now (words .entry)) (now (scratch .entry)) serial len) r (now (words .exit)) [] (now (scratch .exit)) ⌝ }
+    ensures { λ r. ⌜ Leaves (outcome (now (words .entry)) (now (scratch .entry)) (Act.enter serial len)) r (now (words .exit)) [] (now (scratch .exit)) ⌝ }
 {
-    if scratch.len() < marks::NEED {
-        return turned_away(11);
-    }
-    if !check(words, scratch) {
-        return turned_away(3);
+    let k = admit(words, scratch);
+    if k != 0 {
+        return turned_away(k);
     }
     enters::enter_in(words, serial, len)
 }
@@ -98,13 +114,11 @@ pub fn file(
     day: u32,
     code: u32,
 ) -> Answer
-    ensures { λ r. ⌜ Leaves (fileCall (now (words .entry)) (now (scratch .entry)) serial len day code) r (now (words .exit)) [] (now (scratch .exit)) ⌝ }
+    ensures { λ r. ⌜ Leaves (outcome (now (words .entry)) (now (scratch .entry)) (Act.file serial len day code)) r (now (words .exit)) [] (now (scratch .exit)) ⌝ }
 {
-    if scratch.len() < marks::NEED {
-        return turned_away(11);
-    }
-    if !check(words, scratch) {
-        return turned_away(3);
+    let k = admit(words, scratch);
+    if k != 0 {
+        return turned_away(k);
     }
     files::file_in(words, serial, len, day, code)
 }
@@ -117,13 +131,11 @@ pub fn show(
     len: usize,
     room: &mut [u32],
 ) -> Answer
-    ensures { λ r. ⌜ Leaves (showCall (now (words .entry)) (now (scratch .entry)) serial len (now (room .entry))) r (now (words .entry)) (now (room .exit)) (now (scratch .exit)) ⌝ }
+    ensures { λ r. ⌜ Leaves (outcome (now (words .entry)) (now (scratch .entry)) (Act.show serial len (now (room .entry)))) r (now (words .entry)) (now (room .exit)) (now (scratch .exit)) ⌝ }
 {
-    if scratch.len() < marks::NEED {
-        return turned_away(11);
-    }
-    if !check(words, scratch) {
-        return turned_away(3);
+    let k = admit(words, scratch);
+    if k != 0 {
+        return turned_away(k);
     }
     shows::show_in(words, serial, len, room)
 }
@@ -136,13 +148,11 @@ pub fn withdraw(
     len: usize,
     room: &mut [u32],
 ) -> Answer
-    ensures { λ r. ⌜ Leaves (withdrawCall (now (words .entry)) (now (scratch .entry)) serial len (now (room .entry))) r (now (words .exit)) (now (room .exit)) (now (scratch .exit)) ⌝ }
+    ensures { λ r. ⌜ Leaves (outcome (now (words .entry)) (now (scratch .entry)) (Act.withdraw serial len (now (room .entry)))) r (now (words .exit)) (now (room .exit)) (now (scratch .exit)) ⌝ }
 {
-    if scratch.len() < marks::NEED {
-        return turned_away(11);
-    }
-    if !check(words, scratch) {
-        return turned_away(3);
+    let k = admit(words, scratch);
+    if k != 0 {
+        return turned_away(k);
     }
     withdraws::withdraw_in(words, serial, len, room)
 }

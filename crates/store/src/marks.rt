@@ -2,16 +2,12 @@
 ghost use mathlib.Core.Path.{_≡_};
 ghost use Prim.Native.Nat.{_*_, _<_, _≤_};
 ghost use lib.ListN.{length};
-ghost use Rattle.model.specs.Calls.{scratchNeed, cleaned};
+ghost use Rattle.model.specs.Calls.{cleaned};
 ghost use Rattle.store.specs.Marks.{markAt, markedAt};
-use crate::layout;
-
-// The bytes of scratch that the checker takes: a bit for each cell that a store can have.
-pub const NEED: usize = (layout::MOST_CARDS + layout::MOST_FAULTS) as usize / 8;
 
 // Whether the bit of number k is set: bit k % 8 of byte k / 8.
 pub fn is_marked(scratch: &[u8], k: usize) -> bool
-    requires { ⌜ (k < 8 * scratchNeed) × (scratchNeed ≤ length (now scratch)) ⌝ }
+    requires { ⌜ k < 8 * length (now scratch) ⌝ }
     ensures { λ r. ⌜ r ≡ markAt (now (scratch .entry)) k ⌝ }
 {
     let mask: u8 = 1 << (k % 8);
@@ -20,7 +16,7 @@ pub fn is_marked(scratch: &[u8], k: usize) -> bool
 
 // Sets the bit of number k, and leaves every other bit.
 pub fn mark(scratch: &mut [u8], k: usize)
-    requires { ⌜ (k < 8 * scratchNeed) × (scratchNeed ≤ length (now scratch)) ⌝ }
+    requires { ⌜ k < 8 * length (now scratch) ⌝ }
     ensures { λ _. ⌜ now (scratch .exit) ≡ markedAt (now (scratch .entry)) k ⌝ }
 {
     let mask: u8 = 1 << (k % 8);
@@ -28,13 +24,13 @@ pub fn mark(scratch: &mut [u8], k: usize)
     scratch[at] = scratch[at] | mask;
 }
 
-// The first NEED bytes are zero, and the rest is as it was.
-pub fn clear(scratch: &mut [u8])
-    requires { ⌜ scratchNeed ≤ length (now scratch) ⌝ }
-    ensures { λ _. ⌜ now (scratch .exit) ≡ cleaned (now (scratch .entry)) ⌝ }
+// The first n bytes are zero, and the rest is as it was.
+pub fn clear(scratch: &mut [u8], n: usize)
+    requires { ⌜ n ≤ length (now scratch) ⌝ }
+    ensures { λ _. ⌜ now (scratch .exit) ≡ cleaned n (now (scratch .entry)) ⌝ }
 {
     let mut i = 0;
-    while i < NEED {
+    while i < n {
         scratch[i] = 0;
         i += 1;
     }

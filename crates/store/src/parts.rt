@@ -3,8 +3,7 @@ ghost use mathlib.Core.Path.{_≡_};
 ghost use mathlib.Core.Bool.{cond};
 ghost use Prim.Native.Nat.{_+_, _≤_};
 ghost use lib.ListN.{length, getD};
-ghost use Rattle.model.specs.Layout.{directoryAt, freeAt, freeFaultsAt};
-ghost use Rattle.model.specs.Calls.{scratchNeed};
+ghost use Rattle.model.specs.Layout.{directoryAt, freeAt, freeFaultsAt, shapeOf};
 ghost use Rattle.store.specs.Cells.{shapeIn, Read, cellFits};
 ghost use Rattle.store.specs.Walk.{walkOf, Did};
 ghost use Rattle.store.specs.Checker.{Asks, nextIn, heldWord, partOf, DidPart, DidCheck};
@@ -15,6 +14,7 @@ use crate::front;
 use crate::layout;
 use crate::walks;
 use crate::walks::Walked;
+ghost use Rattle.model.specs.Shape.{need};
 
 // How many cells a part has, the number that marks its first, and how many chains it has beside the free one.
 fn limit_of(h: Header, faults: bool) -> u32
@@ -78,7 +78,7 @@ fn free_chain(
 
 // All cells of a part stand in a chain, once, and as many as the header says are held.
 pub fn part_fits(w: &[u32], scratch: &mut [u8], h: Header, faults: bool) -> bool
-    requires { ⌜ Read (now w) h × (h .maxp + h .p ≤ h .top) × (scratchNeed ≤ length (now scratch)) ⌝ }
+    requires { ⌜ Read (now w) h × (h .maxp + h .p ≤ h .top) × (need (shapeIn h) ≤ length (now scratch)) ⌝ }
     ensures { λ r. ⌜ DidPart (partOf (shapeIn h) (now (w .entry)) faults (now (scratch .entry))) r (now (scratch .exit)) ⌝ }
 {
     let limit = limit_of(h, faults);
@@ -100,7 +100,7 @@ pub fn part_fits(w: &[u32], scratch: &mut [u8], h: Header, faults: bool) -> bool
 
 // The front, then the cards, then the faults; bytes of scratch behind the marks stay.
 pub fn all_fit(w: &[u32], scratch: &mut [u8]) -> bool
-    requires { ⌜ scratchNeed ≤ length (now scratch) ⌝ }
+    requires { ⌜ need (shapeOf (now w)) ≤ length (now scratch) ⌝ }
     ensures { λ r. ⌜ DidCheck (now (w .entry)) (now (scratch .entry)) r (now (scratch .exit)) ⌝ }
 {
     if !front::front_fits(w) {

@@ -8,7 +8,7 @@ ghost use lib.Dec.{eqb};
 ghost use lib.ListN.{length, set, take, replicate};
 ghost use lib.Seq.{sets};
 ghost use Rattle.model.specs.Serial.{validSerial};
-ghost use Rattle.model.specs.Layout.{heldAt, faultsHeldAt, freeAt, toNext, toFirst, toLast, toCount, segmentsAt, cardWidth, faultWidth, leastWidth, follow, last as lastOf};
+ghost use Rattle.model.specs.Layout.{heldAt, faultsHeldAt, freeAt, toNext, toFirst, toLast, toCount, segmentsAt, faultWidth, leastWidth, follow, last as lastOf};
 ghost use Rattle.model.specs.Meaning.{nextFault};
 ghost use Rattle.model.specs.Words.{cardAt, faultAt, linkAt, placeWords, fileWords, clearWords, giveWords, removeWords};
 ghost use Rattle.store.specs.Cells.{shapeIn, Sized};
@@ -18,6 +18,7 @@ use crate::cells;
 use crate::cells::Header;
 use crate::layout;
 use crate::serial;
+ghost use Rattle.model.specs.Shape.{cardWidth};
 
 // The word of bucket b, in the segment part.
 fn set_bucket(segments: &mut [u32], b: u32, v: u32)

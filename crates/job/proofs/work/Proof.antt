@@ -1,36 +1,42 @@
 -- `job::work` meets its contract: its three tests are the model's, in the model's order, and past them the lines end as the model's lines end.
-use mathlib.Core.Path.{sym, _∙_}
-use Prim.Native.Nat.{_≤_}
+use mathlib.Core.Path.{sym, ap, _∙_}
+use Prim.Native.Nat.{ℕ, _≤_, _<_}
+use native.Mathlib.Omega.{arith}
 use borrow.Author.Needs.{needs}
 use borrow.Author.Tests.{not-true, not-false}
 use lib.ListN.{length}
-use Rattle.model.specs.Calls.{scratchNeed}
+use Rattle.model.specs.Shape.{need}
+use Rattle.model.specs.Layout.{shapeOf}
+use Rattle.model.specs.Calls.{cleaned}
 use Rattle.model.specs.Job.{mostText}
 use Rattle.job.proofs.JobCases.{job-short, job-long, job-unsound, job-lines}
 use Rattle.job.proofs.work.Statement.{statement}
 use Rattle.job.proofs.work.Tie as tie
 
-abbrev start : tie.Else1 → tie.Start
-start c = c .before .before .before .before .before
+-- the length asked for is known first
+abbrev start : tie.After-need → tie.Start
+start c = c .before .before .before .before .before .before
+
+scant : (c : tie.Then1) → length (start (c .before) .args .scratch .now) < need (shapeOf (start (c .before) .args .words .now))
+scant c = omega (arith, c .if1 .taken, c .before .need .ensures)
 
 -- enough scratch, and past the second test a text that is not too long
-enough : (c : tie.Else1) → scratchNeed ≤ length (start c .args .scratch .now)
-unfolding scratchNeed
-enough c = c .if1 .left
+enough : (c : tie.Else1) → need (shapeOf (start (c .before) .args .words .now)) ≤ length (start (c .before) .args .scratch .now)
+enough c = omega (arith, c .if1 .left, c .before .need .ensures)
 
-short : (c : tie.Else2) → length (start (c .before) .args .text .now) ≤ mostText
+short : (c : tie.Else2) → length (start (c .before .before) .args .text .now) ≤ mostText
 unfolding mostText
 short c = c .if2 .left
 
 returns : tie.Need-returns
-unfolding scratchNeed
-returns c = job-short _ _ _ _ _ (c .before .if1 .taken) (c .refused .ensures)
+returns c = job-short _ _ _ _ _ (scant (c .before)) (c .refused .ensures)
 
 returns-2 : tie.Need-returns-2
 unfolding mostText
 returns-2 c =
     let k = c .before .before .before in
-    job-long _ _ _ _ _ (enough (k .before .before .before)) (k .clear .ensures) (k .before .before .if2 .taken) (c .refused2 .ensures)
+    let e = k .before .before .before in
+    job-long _ _ _ _ _ (enough e) (k .clear .ensures ∙ ap (λ (n : ℕ). cleaned n (start (e .before) .args .scratch .now)) (e .before .need .ensures)) (k .before .before .if2 .taken) (c .refused2 .ensures)
 
 -- past the test of soundness
 abbrev tested : tie.After-check → tie.Else2
@@ -59,10 +65,13 @@ pub work-spec : {M : Type 1} → statement M
 work-spec =
     tie.close
     (tie.spec
+    (λ c κs. tt)
     (λ c κs. search needs)
+    (λ c. search needs)
     returns
-    (λ c κs. enough (c .before .before))
+    (λ c κs. c .before .before .if1 .left)
     (λ c κs. search needs)
+    (λ c. search needs)
     (λ c. search needs)
     returns-2
     (λ c κs. enough (c .before .before .before))

@@ -3,8 +3,8 @@ use mathlib.Core.Path.{_∙_}
 use Prim.Native.Nat.{ℕ}
 use lib.ListN.{length-replicate}
 use borrow.Author.Needs.{needs}
-use Rattle.model.specs.Shape.{entries}
-use Rattle.model.specs.Layout.{cardWidth, cardsAt, faultsAt, lengthFor}
+use Rattle.model.specs.Shape.{entries, cardWidth}
+use Rattle.model.specs.Layout.{cardsAt, faultsAt, lengthFor}
 use Rattle.model.specs.Calls.{shapeFor}
 use Rattle.reader.specs.Depot.{depotShape}
 use Rattle.reader.proofs.Opening.{opens-fresh}

@@ -1,12 +1,12 @@
 -- `reader::fresh_job` meets its contract: the job ran on a fresh store, zero scratch and a tally of nothing.
 use borrow.Author.Needs.{needs}
-use Rattle.model.specs.Calls.{scratchNeed}
+use Rattle.model.specs.Shape.{mostCards, mostFaults, need}
 use Rattle.reader.specs.Depot.{blank, nothing}
 use Rattle.reader.proofs.fresh_job.Statement.{statement}
 use Rattle.reader.proofs.fresh_job.Tie as tie
 
 returns : tie.Need-returns
-unfolding scratchNeed blank nothing
+unfolding need mostCards mostFaults blank nothing
 returns c =
     let r = c .before .before .before .before .before in
     let d = r .lent-run .ensures in

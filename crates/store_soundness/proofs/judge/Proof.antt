@@ -1,13 +1,13 @@
--- `judge` is safe: its scratch has the 384 bytes that the checker asks for.
+-- `judge` is safe: its scratch has the bytes that the checker asks for at most.
 use native.Mathlib.Omega.{arith}
 use borrow.Author.Needs.{needs}
-use Rattle.model.specs.Calls.{scratchNeed}
+use Rattle.model.specs.Layout.{shapeOf}
+use Rattle.model.proofs.Shapes.{need-ever}
 use Rattle.store_soundness.proofs.judge.Statement.{statement}
 use Rattle.store_soundness.proofs.judge.Tie as tie
 
 check-requires : tie.Need-check-requires
-unfolding scratchNeed
-check-requires c κs = omega arith
+check-requires c κs = omega (arith, need-ever (shapeOf (c .before .before .args .words .now)))
 
 pub judge-spec : {M : Type 1} → statement M
 judge-spec =

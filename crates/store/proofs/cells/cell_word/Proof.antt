@@ -1,8 +1,8 @@
 -- `cells::cell_word` meets its contract: each part has its own limit and width.
 use Prim.Native.Nat.{_≤_, _<_}
 use native.Mathlib.Omega.{arith}
-use lib.ListN.{getD}
-use Rattle.model.specs.Layout.{cardWidth, faultWidth}
+use Rattle.model.specs.Shape.{cardWidth}
+use Rattle.model.specs.Layout.{faultWidth}
 use Rattle.store.specs.Cells.{shapeIn, cellWord, limitOf, widthOf}
 use Rattle.store.proofs.cells.cell_word.Statement.{statement}
 use Rattle.store.proofs.cells.cell_word.Tie as tie

@@ -1,9 +1,8 @@
 -- `cells::met_first` meets its contract: the loop's invariant is that what the search answers from here is what it answers from the start.
-use mathlib.Core.Path.{_≡_, sym, _∙_, ap}
-use Prim.Native.Nat.{ℕ, _≤_, _-_}
+use mathlib.Core.Path.{_≡_, sym, _∙_}
+use Prim.Native.Nat.{_≤_, _-_}
 use native.Mathlib.Omega.{arith}
 use borrow.Author.Tests.{not-true, not-false}
-use Rattle.model.specs.Lists.{between}
 use Rattle.model.proofs.Lists.{between-is}
 use Rattle.store.specs.Cells.{shapeIn, metFirst}
 use Rattle.store.proofs.CellLaws.{met-start, met-here, met-out, met-twin, met-on, met-end}

@@ -1,14 +1,13 @@
 -- `fresh::fill_parts` meets its contract: each part comes back behind those before it, and together they are a fresh store's words.
 use mathlib.Core.Path.{_≡_, refl, sym, ap, _∙_}
-use mathlib.Core.List.{List, _++_}
+use mathlib.Core.List.{_++_}
 use Prim.Native.Nat.{ℕ, _+_, _-_, _*_, _≤_, _<_}
 use native.Mathlib.Omega.{arith}
 use borrow.Author.Needs.{needs}
 use borrow.Rule.Slice.PartMut.{putMid, mid-len}
-use lib.ListN.{length}
-use Rattle.model.specs.Shape.{Shape, topOf}
+use Rattle.model.specs.Shape.{Shape, topOf, cardWidth}
 use Rattle.model.specs.Model.{fresh}
-use Rattle.model.specs.Layout.{directoryAt, farthest, cardWidth, faultWidth, cardsAt, faultsAt, lengthFor, segmentsAt, header, directory, segments}
+use Rattle.model.specs.Layout.{directoryAt, farthest, faultWidth, lengthFor, segmentsAt, header, directory, segments}
 use Rattle.model.proofs.Rep.{segments-length}
 use Rattle.model.proofs.Fresh.{fair-fresh}
 use Rattle.store.specs.Fresh.{cellsTo}

@@ -1,6 +1,6 @@
 -- `front::card_width` meets its contract: nine words.
 use mathlib.Core.Path.{refl}
-use Rattle.model.specs.Layout.{cardWidth}
+use Rattle.model.specs.Shape.{cardWidth}
 use Rattle.store.proofs.front.card_width.Statement.{statement}
 use Rattle.store.proofs.front.card_width.Tie as tie
 

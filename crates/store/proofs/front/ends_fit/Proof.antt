@@ -1,9 +1,7 @@
 -- `front::ends_fit` meets its contract: words 12 to 15 are tested one after the other.
-use mathlib.Core.Path.{_≡_, refl, sym, ap, _∙_}
-use mathlib.Core.Bool.{true}
-use native.Mathlib.Omega.{arith}
+use mathlib.Core.Path.{sym, _∙_}
 use borrow.Author.Needs.{needs}
-use borrow.Author.Tests.{eq-eqb, ne-eqb, not-true, not-false}
+use borrow.Author.Tests.{eq-eqb, ne-eqb}
 use Rattle.store.proofs.Rows.{and-rest, and-fails}
 use Rattle.store.specs.Checker.{endsFit}
 use Rattle.store.proofs.front.ends_fit.Statement.{statement}

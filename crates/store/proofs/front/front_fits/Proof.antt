@@ -1,10 +1,9 @@
 -- `front::front_fits` meets its contract: the shape and the length, the offsets, the state and the table's words are tested in this order, each
 -- with what the ones before it have shown.
-use mathlib.Core.Path.{_≡_, sym, ap, _∙_}
+use mathlib.Core.Path.{_≡_, sym, _∙_}
 use mathlib.Core.Bool.{true}
 use native.Mathlib.Omega.{arith}
 use borrow.Author.Tests.{not-true, not-false}
-use borrow.Author.Needs.{needs}
 use Rattle.rules.proofs.States.{State, state-of}
 use Rattle.store.specs.Checker.{limitsFit, offsetsFit, frontFits}
 use Rattle.store.proofs.Rows.{and-rest, and-fails}

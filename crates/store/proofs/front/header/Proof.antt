@@ -1,12 +1,10 @@
 -- `front::header` meets its contract: the words that it reads are there, and they are the header's numbers.
-use mathlib.Core.Path.{_≡_, refl, sym, ap, _∙_}
-use mathlib.Core.Bool.{true}
+use mathlib.Core.Path.{ap, _∙_}
 use native.Mathlib.Omega.{arith}
-use borrow.Author.Needs.{needs}
 use Prim.Native.Nat.{_≤_}
 use lib.ListN.{length}
-use Rattle.model.specs.Layout.{directoryAt, cardWidth}
-use Rattle.model.specs.Shape.{topOf}
+use Rattle.model.specs.Layout.{directoryAt}
+use Rattle.model.specs.Shape.{topOf, cardWidth}
 use Rattle.store.proofs.FrontLaws.{fit-is, fit-read}
 use Rattle.store.proofs.front.header.Statement.{statement}
 use Rattle.store.proofs.front.header.Tie as tie

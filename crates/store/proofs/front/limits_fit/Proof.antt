@@ -1,9 +1,8 @@
 -- `front::limits_fit` meets its contract: the header's words are there, then the shape, then the length.
-use mathlib.Core.Path.{_≡_, sym, ap, _∙_}
-use mathlib.Core.Bool.{true}
-use borrow.Author.Tests.{eq-eqb, ne-eqb, not-true, not-false, le-leb, lt-leb}
+use mathlib.Core.Path.{sym, ap, _∙_}
+use borrow.Author.Tests.{not-true, not-false, le-leb, lt-leb}
 use borrow.Author.Needs.{needs}
-use Rattle.model.specs.Layout.{shapeOk, shapeOf, lengthFor}
+use Rattle.model.specs.Layout.{shapeOk}
 use Rattle.store.specs.Checker.{limitsFit}
 use Rattle.store.proofs.Rows.{and-rest, and-fails}
 use Rattle.store.proofs.front.limits_fit.Statement.{statement}

@@ -1,11 +1,8 @@
 -- `front::offsets_fit` meets its contract: words 9 to 11 are tested, then words 12 to 15.
-use mathlib.Core.Path.{_≡_, refl, sym, ap, _∙_}
-use mathlib.Core.Bool.{true}
-use native.Mathlib.Omega.{arith}
+use mathlib.Core.Path.{sym, _∙_}
 use borrow.Author.Needs.{needs}
-use borrow.Author.Tests.{eq-eqb, ne-eqb, not-true, not-false}
+use borrow.Author.Tests.{eq-eqb, ne-eqb}
 use Rattle.store.proofs.Rows.{and-rest, and-fails}
-use Rattle.model.specs.Layout.{segmentsAt, cardsAt}
 use Rattle.store.specs.Checker.{offsetsFit}
 use Rattle.store.proofs.front.offsets_fit.Statement.{statement}
 use Rattle.store.proofs.front.offsets_fit.Tie as tie

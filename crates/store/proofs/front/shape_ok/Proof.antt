@@ -1,6 +1,5 @@
 -- `front::shape_ok` meets its contract: the format, then the limits.
 use mathlib.Core.Path.{sym, _∙_}
-use borrow.Author.Needs.{needs}
 use borrow.Author.Tests.{not-true, not-false}
 use Rattle.model.specs.Layout.{shapeOk}
 use Rattle.store.proofs.Rows.{and-rest, and-fails}

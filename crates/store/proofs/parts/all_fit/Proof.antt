@@ -1,16 +1,11 @@
 -- `parts::all_fit` meets its contract: the front is tested, then the cards, then the faults, and each part leaves what stands behind the marks.
-use mathlib.Core.Path.{_≡_, sym, ap, subst, _∙_}
-use mathlib.Core.Bool.{Bool, true}
+use mathlib.Core.Path.{_≡_, sym, ap, _∙_}
+use mathlib.Core.Bool.{true}
 use native.Mathlib.Omega.{arith}
 use borrow.Author.Needs.{needs}
 use borrow.Author.Tests.{not-true, not-false}
-use Rattle.store.specs.Checker.{frontFits, partOf, DidPart}
-use mathlib.Core.List.{List}
-use Prim.Native.Nat.{ℕ}
-use Rattle.model.specs.Shape.{Shape, topOf}
-use Rattle.model.specs.Layout.{shapeOf}
-use Rattle.store.specs.declared.cells.Header.{Header}
-use Rattle.store.specs.Cells.{shapeIn, Read}
+use Rattle.store.specs.Checker.{frontFits}
+use Rattle.model.specs.Shape.{topOf, need}
 use Rattle.store.proofs.PartRuns.{front-limits, front-offsets, front-room, front-stops, cards-stop, faults-end}
 use Rattle.store.proofs.parts.all_fit.Statement.{statement}
 use Rattle.store.proofs.parts.all_fit.Tie as tie
@@ -24,7 +19,7 @@ front c = sym (c .before .front-fits .ensures) ∙ not-false (c .before .front-f
 part-fits-requires : tie.Need-part-fits-requires
 part-fits-requires c κs =
     let r = c .before .header .ensures in
-    (r, omega (arith, front-room _ (front (c .before .before)), r .maxp, r .state, ap topOf (r .shape), r .sized .top), c .before .before .before .before .before .before .pre)
+    (r, omega (arith, front-room _ (front (c .before .before)), r .maxp, r .state, ap topOf (r .shape), r .sized .top), omega (arith, ap need (r .shape), c .before .before .before .before .before .before .pre))
 
 returns-2 : tie.Need-returns-2
 returns-2 c =
@@ -34,7 +29,7 @@ returns-2 c =
 part-fits-requires-2 : tie.Need-part-fits-requires-2
 part-fits-requires-2 c κs =
     let r = c .before .before .before .before .before .before .header .ensures in
-    (r, omega (arith, front-room _ (front (c .before .before .before .before .before .before .before)), r .maxp, r .state, ap topOf (r .shape), r .sized .top), omega (arith, c .before .before .before .before .before .before .before .before .before .before .before .pre, c .before .before .before .before .part-fits .kept .1 .0))
+    (r, omega (arith, front-room _ (front (c .before .before .before .before .before .before .before)), r .maxp, r .state, ap topOf (r .shape), r .sized .top), omega (arith, ap need (r .shape), c .before .before .before .before .before .before .before .before .before .before .before .pre, c .before .before .before .before .part-fits .kept .1 .0))
 
 returns-3 : tie.Need-returns-3
 returns-3 c =

@@ -2,12 +2,11 @@
 -- (`Parting`). The measure is what is left of the chain.
 use mathlib.Core.Path.{sym, ap, _∙_}
 use mathlib.Core.List.{List}
-use Prim.Native.Nat.{ℕ, _+_, _*_, _≤_}
+use Prim.Native.Nat.{ℕ, _+_, _≤_}
 use native.Mathlib.Omega.{arith}
 use borrow.Author.Needs.{needs}
 use lib.ListN.{length, set}
-use Rattle.rules.specs.Table.{top}
-use Rattle.model.specs.Layout.{segmentsAt, cardWidth, follow}
+use Rattle.model.specs.Layout.{follow}
 use Rattle.model.specs.Meaning.{nextCard}
 use Rattle.model.specs.Words.{linkAt}
 use Rattle.store.specs.Cells.{shapeIn}

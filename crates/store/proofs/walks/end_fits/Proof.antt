@@ -4,7 +4,6 @@ use mathlib.Core.Bool.{true}
 use Prim.Native.Nat.{_<_}
 use native.Mathlib.Omega.{arith}
 use borrow.Author.Tests.{eq-eqb, ne-eqb, not-true, not-false}
-use lib.ListN.{getD}
 use Rattle.store.specs.Checker.{endFits, reachOf}
 use Rattle.store.proofs.Rows.{and-rest, and-fails}
 use Rattle.store.proofs.walks.end_fits.Statement.{statement}

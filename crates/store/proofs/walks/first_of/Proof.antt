@@ -2,7 +2,6 @@
 use Prim.Native.Nat.{_<_}
 use native.Mathlib.Omega.{arith}
 use borrow.Author.Needs.{needs}
-use lib.ListN.{getD}
 use Rattle.model.specs.Shape.{topOf}
 use Rattle.store.specs.Cells.{shapeIn}
 use Rattle.store.specs.Checker.{firstOf, reachOf}

@@ -2,7 +2,8 @@
 use mathlib.Core.Path.{sym, _∙_}
 use native.Mathlib.Omega.{arith}
 use borrow.Author.Needs.{needs}
-use Rattle.model.specs.Calls.{scratchNeed}
+use Rattle.model.proofs.Shapes.{need-ever}
+use Rattle.store.specs.Cells.{shapeIn}
 use Rattle.store.proofs.WalkLaws.{over, marked, tested}
 use Rattle.store.proofs.walks.may_come.Statement.{statement}
 use Rattle.store.proofs.walks.may_come.Tie as tie
@@ -11,8 +12,7 @@ returns : tie.Need-returns
 returns c = over _ _ _ _ _ (c .if1 .taken)
 
 add-is-marked : tie.Need-add-is-marked
-unfolding scratchNeed
-add-is-marked c = omega arith
+add-is-marked c = omega (arith, need-ever (shapeIn (c .before .before .before .args .h)))
 
 returns-2 : tie.Need-returns-2
 returns-2 c = marked _ _ _ _ _ (c .before .before .if1 .left) (sym (c .if2 .taken) ∙ c .before .is-marked .ensures)

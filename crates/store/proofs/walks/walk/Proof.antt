@@ -5,7 +5,6 @@ use mathlib.Core.Bool.{true, false}
 use Prim.Native.Nat.{_-_, _≤_, _<_}
 use native.Mathlib.Omega.{arith}
 use borrow.Author.Tests.{not-true, not-false}
-use Rattle.model.specs.Calls.{scratchNeed}
 use Rattle.store.specs.Cells.{shapeIn, cellFits}
 use Rattle.store.specs.Walk.{mayCome}
 use Rattle.store.specs.Checker.{nextIn}
@@ -13,6 +12,7 @@ use Rattle.store.proofs.WalkLaws.{Going, start, below, goes-on, walk-en
 use Rattle.store.proofs.CellLaws.{width-some}
 use Rattle.store.proofs.walks.walk.Statement.{statement}
 use Rattle.store.proofs.walks.walk.Tie as tie
+use Rattle.model.proofs.Shapes.{need-ever}
 
 abbrev Inv-loop : tie.InvT-loop
 Inv-loop w scratch₀ h faults chain base limit first i₀ n₀ last₀ scratch i n last =
@@ -52,14 +52,14 @@ returns c =
     (walk-bad _ _ _ _ _ _ _ _ _ (c .before .before .before .loop-test .taken) (sym (c .before .may-come .ensures) ∙ not-true (c .before .may-come .result) (c .if1 .taken)))
 
 add-mark : tie.Need-add-mark Inv-loop μ-loop
-unfolding scratchNeed
-add-mark c = omega (arith, within (c .before), c .before .before .before .before .before .before .before .before .pre .0 .marks)
+add-mark c =
+    let s = c .before .before .before .before .before .before .before .before in omega (arith, within (c .before), s .pre .0 .marks, need-ever (shapeIn (s .args .h)))
 
 mark-requires : tie.Need-mark-requires Inv-loop μ-loop
 mark-requires c κs =
     let p = c .before .before .before .before .before .before .before .before .pre in
     let g = c .before .before .before .before .before .loop .inv in
-    (omega (arith, within (c .before)), omega arith)
+    omega (arith, within (c .before))
 
 cell-word-requires : tie.Need-cell-word-requires Inv-loop μ-loop
 cell-word-requires c κs =
