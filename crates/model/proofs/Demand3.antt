@@ -41,6 +41,7 @@ good-act s g (show bytes n room) = show-cases s g bytes n (λ r. Good (r .store)
 good-act s g (withdraw bytes n room) =
     withdraw-cases s g bytes n (λ r. Good (r .store)) room (λ v. g) (λ v l. g) (λ v l f. g) (λ v l f. withdrawn-good s g (take n bytes) l)
 
+-- and with the shape that it had
 pub shape-act : (s : Store) → Good s → (a : Act) → perform s a .store .shape ≡ s .shape
 shape-act s g (enter bytes n) =
     enter-cases s g bytes n (λ r. r .store .shape ≡ s .shape) (λ v. refl) (λ v l. refl) (λ v l f. refl) (λ v l f. entered-shape s (take n bytes))

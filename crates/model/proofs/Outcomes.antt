@@ -1,6 +1,7 @@
 -- A call on words by cases: with short scratch nothing happens, and on sound words the call is the act on the store that the words
 -- stand for, written back (`call-cases`); Open by its three answers (`open-cases`). Since the words of a fair store are read back as
--- that store (`read-back`), sound words stay sound under every call (`sound-call`) and every run of calls (`sound-run`).
+-- that store (`read-back`), sound words stay sound under every call (`sound-call`) and every run of calls (`sound-run`), and no act changes
+-- the shape that they tell (`shape-call`).
 -- The numbers of a call that come before its act, and those of Open, are given exactly when the rules say (`call-numbers`, `open-numbers`).
 use Prim.Native.Nat.{ℕ, _≤_, _<_}
 use mathlib.Core.Path.{_≡_, refl, _∙_}
@@ -75,7 +76,7 @@ sound-call w ok (opening t) = open-cases w t (λ r. sound (r .words) ≡ true) (
 sound-call w ok (acting scratch a) =
     call-cases w scratch a ok (λ r. sound (r .words) ≡ true) (λ h. ok) (λ h. good-sound (perform (decode w) a .store) (good-act (decode w) (sound-good w ok .0) a))
 
--- and no act changes the shape that they tell
+-- no act changes the shape that they tell
 pub shape-call : (w : List ℕ) → sound w ≡ true → (scratch : List ℕ) (a : Act) → shapeOf (outcome w scratch a .words) ≡ shapeOf w
 unfolding decodeAs
 shape-call w ok scratch a =

@@ -75,13 +75,6 @@ fn most_faults(s: Shape) -> u32
     layout::MOST_FAULTS
 }
 
-// The bytes of scratch that the checker takes for these words, whatever they hold.
-pub fn need(w: &[u32]) -> usize
-    ensures { λ r. ⌜ r ≡ need (shapeOf (now (w .entry))) ⌝ }
-{
-    layout::NEED
-}
-
 // C and F are 1 to the highest of the format.
 pub fn limits_ok(s: Shape) -> bool
     ensures { λ r. ⌜ r ≡ limitsOk (shapeBy s) ⌝ }
@@ -92,6 +85,13 @@ pub fn limits_ok(s: Shape) -> bool
         return false;
     }
     serial::within(1, most_faults(s), f)
+}
+
+// The bytes of scratch that the checker takes for these words, whatever they hold.
+pub fn need(words: &[u32]) -> usize
+    ensures { λ r. ⌜ r ≡ need (shapeOf (now (words .entry))) ⌝ }
+{
+    layout::NEED
 }
 
 // The shapes that there are.

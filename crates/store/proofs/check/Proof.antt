@@ -21,15 +21,6 @@ begun c = c .before .before .before
 enough : (c : tie.After-need) → c .need .result ≤ length (begun c .args .scratch .now)
 enough c = omega (arith, c .need .ensures, begun c .pre)
 
-clear-requires : tie.Need-clear-requires
-clear-requires c κs = enough (c .before)
-
-all-fit-requires : tie.Need-all-fit-requires
-all-fit-requires c κs = search needs
-
-clear-requires-2 : tie.Need-clear-requires-2
-clear-requires-2 c κs = search needs
-
 returns : tie.Need-returns
 returns c =
     let t = c .before .before .before .before .before .before .before .before .before .before .before .before in
@@ -48,8 +39,8 @@ check-spec =
     tie.close
     (tie.spec
     (λ c κs. tt)
-    clear-requires
-    all-fit-requires
-    clear-requires-2
+    (λ c κs. enough (c .before))
+    (λ c κs. search needs)
+    (λ c κs. search needs)
     (λ c. search needs)
     returns)
