@@ -1,23 +1,24 @@
--- Laws of a header that the words are sized by (`sized-from`): a word of a cell is there (`card-in`,
--- `fault-in`) and is the one asked for (`card-is`, `fault-is`). Of the words only their length counts (`sized-same`).
+-- Laws of a header that the words are sized by (`sized-from`): a word of a cell is there (`card-in`, `cell-in`) and, read in the words from
+-- its part on, is the one asked for (`card-is`, `fault-is`). Of the words only their length counts (`sized-same`).
 -- Then laws of the tests on cells, that the functions of `cells` rest on.
-use mathlib.Core.Path.{_≡_, ap, _∙_}
-use mathlib.Core.Bool.{Bool, true, false}
+use mathlib.Core.Path.{_≡_, ap, _∙_, sym}
+use mathlib.Core.Bool.{Bool, true, false, cond}
 use mathlib.Core.List.{List}
 use Prim.Native.Nat.{ℕ, suc, _+_, _-_, _*_, _/_, _≤_, _<_}
 use native.Mathlib.Nat.{mul-le-mul}
 use native.Mathlib.Omega.{arith}
 use borrow.Author.Tests.{eq-eqb, ne-eqb}
 use lib.Dec.{eqb}
-use lib.ListN.{length, getD, set, length-set}
+use lib.ListN.{length, getD, set, length-set, take, drop}
 use Rattle.model.specs.Lists.{between}
 use Rattle.model.specs.Shape.{segmentSize, Shape, entries, topOf, cardsEver, cardWidth}
 use Rattle.model.specs.Layout.{toNext, mostWidth, faultWidth, segmentsAt, cardsAt, faultsAt, lengthFor, shapeOk, cellAt, cardWord, faultWord}
 use Rattle.model.proofs.Places.{cellAt-below}
 use Rattle.model.proofs.Shapes.{top-most, entries-some, width-least, width-most, shaped, few-cards, few-faults}
 use Rattle.store.specs.declared.cells.Header.{Header}
-use Rattle.store.specs.Cells.{shapeIn, Room, Sized, widthOf, cellWord, sameKey, metFirst, freeFits}
+use Rattle.store.specs.Cells.{shapeIn, Room, Sized, widthOf, cellWord, sameKey, metFirst, freeFits, limitOf}
 use Rattle.store.proofs.Rows.{testFrom}
+use lib.Seq.{getD-take, getD-drop}
 
 -- what a header has in numbers, where the words are so long
 module _ (w : List ℕ) (h : Header) (ok : shapeOk (shapeIn h) ≡ true) (long : length w ≡ lengthFor (shapeIn h)) where
@@ -50,27 +51,39 @@ module _ (w : List ℕ) (h : Header) (ok : shapeOk (shapeIn h) ≡ true) (long :
       → h .behind ≡ faultsAt (shapeIn h) → Sized w h
   sized-from t g b v f = record { ok = ok; long = long; top = t; segments = g; base = b; width = v; behind = f; room = room-from t g b v f }
 
+-- a word of the part from a on, by the place of its cell there
+part-word : (w : List ℕ) (a b k : ℕ) → a + b + k < length w → getD (take (length w - a) (drop a w)) (b + k) 0 ≡ getD w (a + b + k) 0
+part-word w a b k l = getD-take (length w - a) (drop a w) (b + k) 0 (omega arith) ∙ getD-drop a w (b + k) 0 ∙ ap (λ (n : ℕ). getD w n 0) (omega arith)
+
 module _ {w : List ℕ} {h : Header} (s : Sized w h) where
   pub bucket-at : (b : ℕ) → h .segments + b ≡ segmentsAt (shapeIn h) + b
   bucket-at b = omega (arith, s .segments)
 
-  -- a word of a cell
+  -- a word of a cell: it is there, and it is that of the part
   pub card-in : (i k : ℕ) → 1 ≤ i → i ≤ h .cards → k < h .width → h .base + h .width * (i - 1) + k < length w
   unfolding cellAt lengthFor faultsAt
   card-in i k a b l =
       let e : h .width * (i - 1) ≡ cardWidth (shapeIn h) * (i - 1) = ap (λ (n : ℕ). n * (i - 1)) (s .width) in
       omega (arith, s .long, s .base, cellAt-below (cardsAt (shapeIn h)) (cardWidth (shapeIn h)) (h .cards) i k a b (omega (arith, s .width)))
 
-  pub card-is : (i k : ℕ) → getD w (h .base + h .width * (i - 1) + k) 0 ≡ cardWord (shapeIn h) w i k
+  pub card-is : (i k : ℕ) → 1 ≤ i → i ≤ h .cards → k < h .width
+      → getD (take (length w - h .base) (drop (h .base) w)) (h .width * (i - 1) + k) 0 ≡ cardWord (shapeIn h) w i k
   unfolding cardWord cellAt
-  card-is i k = λ t. getD w (s .base t + s .width t * (i - 1) + k) 0
+  card-is i k a b l = part-word w (h .base) (h .width * (i - 1)) k (card-in i k a b l) ∙ (λ t. getD w (s .base t + s .width t * (i - 1) + k) 0)
 
-  pub fault-in : (i k : ℕ) → 1 ≤ i → i ≤ h .faults → k < faultWidth → h .behind + faultWidth * (i - 1) + k < length w
+  fault-in : (i k : ℕ) → 1 ≤ i → i ≤ h .faults → k < faultWidth → h .behind + faultWidth * (i - 1) + k < length w
   fault-in i k a b l = let r = s .room in omega arith
 
-  pub fault-is : (i k : ℕ) → getD w (h .behind + faultWidth * (i - 1) + k) 0 ≡ faultWord (shapeIn h) w i k
+  pub fault-is : (i k : ℕ) → 1 ≤ i → i ≤ h .faults → k < faultWidth
+      → getD (take (length w - h .behind) (drop (h .behind) w)) (faultWidth * (i - 1) + k) 0 ≡ faultWord (shapeIn h) w i k
   unfolding faultWord cellAt
-  fault-is i k = λ t. getD w (s .behind t + faultWidth * (i - 1) + k) 0
+  fault-is i k a b l = part-word w (h .behind) (faultWidth * (i - 1)) k (fault-in i k a b l) ∙ (λ t. getD w (s .behind t + faultWidth * (i - 1) + k) 0)
+
+  pub cell-in : (faults : Bool) (i k : ℕ) {start width : ℕ} → start ≡ cond faults (h .behind) (h .base) → width ≡ widthOf (shapeIn h) faults
+      → 1 ≤ i → i ≤ limitOf (shapeIn h) faults → k < width → start + width * (i - 1) + k < length w
+  unfolding limitOf widthOf
+  cell-in true i k p z a b l = rw (p, z) (fault-in i k a b (omega (arith, z)))
+  cell-in false i k p z a b l = let y = z ∙ sym (s .width) in rw (p, y) (card-in i k a b (omega (arith, y)))
 
   -- how many segments the most buckets take
   pub segment-count : h .top / segmentSize ≡ entries (shapeIn h)
@@ -122,18 +135,12 @@ pub met-end : (sh : Shape) (w : List ℕ) (j i c n : ℕ) → c ≤ n → metFir
 unfolding metFirst
 met-end sh w j i c n h = let z : c - n ≡ 0 = omega arith in rw z
 
--- a word of a free cell, and all of them
-unfoldable pub zeroAt : Shape → List ℕ → Bool → ℕ → ℕ → Bool
-zeroAt sh w faults i k = eqb (cellWord sh w faults i k) 0
+-- a word behind `at`, where a cell begins; a cell is free where all of them but its next word are zero
+unfoldable pub zeroAt : List ℕ → ℕ → ℕ → Bool
+zeroAt w at k = eqb (getD w (at + k) 0) 0
 
-pub zero-start : (sh : Shape) (w : List ℕ) (faults : Bool) (i : ℕ) {e : ℕ} → e ≡ widthOf sh faults → testFrom (zeroAt sh w faults i) 1 e ≡ freeFits sh w faults i
-unfolding testFrom zeroAt freeFits
-zero-start sh w faults i z = rw z
-
-pub zero-here : (sh : Shape) (w : List ℕ) (faults : Bool) (i k : ℕ) → cellWord sh w faults i k ≡ 0 → zeroAt sh w faults i k ≡ true
-unfolding zeroAt
-zero-here sh w faults i k z = eq-eqb _ 0 z
-
-pub zero-not : (sh : Shape) (w : List ℕ) (faults : Bool) (i k : ℕ) → (cellWord sh w faults i k ≡ 0 → ⊥) → zeroAt sh w faults i k ≡ false
-unfolding zeroAt
-zero-not sh w faults i k z = ne-eqb _ 0 z
+pub zero-start : {w : List ℕ} {h : Header} → Sized w h → (faults : Bool) (i : ℕ) {start width : ℕ} → start ≡ cond faults (h .behind) (h .base) → width ≡ widthOf (shapeIn h) faults
+    → testFrom (zeroAt w (start + width * (i - 1))) 1 width ≡ freeFits (shapeIn h) w faults i
+unfolding testFrom zeroAt freeFits cellWord cardWord faultWord cellAt widthOf
+zero-start s true i p z = rw (z, p, s .behind)
+zero-start s false i p z = rw (z, p, s .base)

@@ -1,5 +1,6 @@
 // Words of the header and of cells, read; and what a cell has to be by itself.
 ghost use mathlib.Core.Path.{_≡_};
+ghost use mathlib.Core.Bool.{cond};
 ghost use Prim.Native.Nat.{_≤_, _<_};
 ghost use lib.Dec.{eqb};
 ghost use lib.ListN.{length, getD};
@@ -54,7 +55,7 @@ fn wide(x: u32) -> usize
     x as usize
 }
 
-// Word k of card cell i.
+// Word k of card cell i, read in the words from the cards on: the compiler then keeps one address for all k, and adds k where it reads.
 pub fn card_word(w: &[u32], h: Header, i: u32, k: usize) -> u32
     requires { ⌜ Sized (now w) h × (1 ≤ i) × (i ≤ h .cards) × (k < h .width) ⌝ }
     ensures { λ r. ⌜ r ≡ cardWord (shapeIn h) (now (w .entry)) i k ⌝ }
@@ -62,16 +63,19 @@ pub fn card_word(w: &[u32], h: Header, i: u32, k: usize) -> u32
     let base = h.base;
     let width = h.width;
     let cell = (i - 1) as usize;
-    w[base + width * cell + k]
+    let cards = &w[base..];
+    cards[width * cell + k]
 }
 
-// Word k of fault cell i.
+// Word k of fault cell i, in the same way.
 pub fn fault_word(w: &[u32], h: Header, i: u32, k: usize) -> u32
     requires { ⌜ Sized (now w) h × (1 ≤ i) × (i ≤ h .faults) × (k < faultWidth) ⌝ }
     ensures { λ r. ⌜ r ≡ faultWord (shapeIn h) (now (w .entry)) i k ⌝ }
 {
     let behind = h.behind;
-    w[behind + layout::FAULT * ((i - 1) as usize) + k]
+    let cell = (i - 1) as usize;
+    let faults = &w[behind..];
+    faults[layout::FAULT * cell + k]
 }
 
 // The same of either part.
@@ -86,6 +90,13 @@ pub fn cell_word(w: &[u32], h: Header, faults: bool, i: u32, k: usize) -> u32
     }
 }
 
+// Where the cells of a part begin, and how many words each has.
+fn start_of(h: Header, faults: bool) -> usize
+    ensures { λ r. ⌜ r ≡ cond faults (h .behind) (h .base) ⌝ }
+{
+    if faults { h.behind } else { h.base }
+}
+
 fn width_of(h: Header, faults: bool) -> usize
     requires { ⌜ h .width ≡ cardWidth (shapeIn h) ⌝ }
     ensures { λ r. ⌜ r ≡ widthOf (shapeIn h) faults ⌝ }
@@ -98,10 +109,12 @@ fn free_fits(w: &[u32], h: Header, faults: bool, i: u32) -> bool
     requires { ⌜ Sized (now w) h × (1 ≤ i) × (i ≤ limitOf (shapeIn h) faults) ⌝ }
     ensures { λ r. ⌜ r ≡ freeFits (shapeIn h) (now (w .entry)) faults i ⌝ }
 {
+    let start = start_of(h, faults);
     let width = width_of(h, faults);
+    let at = start + width * ((i - 1) as usize);
     let mut k: usize = 1;
     while k < width {
-        if cell_word(w, h, faults, i, k) != 0 {
+        if word(w, at + k) != 0 {
             return false;
         }
         k += 1;

@@ -60,7 +60,7 @@ fn held_word(w: &[u32], faults: bool) -> u32
     }
 }
 
-// The walk of the free chain.
+// The walk of the free chain, by a literal too (see `walks::walk_on`).
 fn free_chain(
     w: &[u32],
     scratch: &mut [u8],

@@ -98,7 +98,7 @@ fn first_of(w: &[u32], h: Header, faults: bool, j: u32) -> u32
     }
 }
 
-// The walk of chain j. Its kind is told by a literal, so that the compiler makes a loop of its own for buckets and for histories.
+// The walk of chain j. Which chain it is stands here as a literal, so that the compiler makes a loop of its own for each kind.
 fn walk_on(
     w: &[u32],
     scratch: &mut [u8],
