@@ -88,12 +88,9 @@ faultsAt sh = cardsAt sh + cardWidth sh * sh .limit
 unfoldable pub lengthFor : Shape → ℕ
 lengthFor sh = faultsAt sh + faultWidth * sh .faultLimit
 
--- what all formats keep to: the fewest and the most words of a card cell, the fewest entries of a directory, and a number above every whole length
+-- what all formats keep to: the fewest words of a card cell, the fewest entries of a directory, and a number above every whole length
 abbrev pub leastWidth : ℕ
 leastWidth = 9
-
-abbrev pub mostWidth : ℕ
-mostWidth = 9
 
 abbrev pub leastEntries : ℕ
 leastEntries = 16

@@ -19,8 +19,8 @@ use Rattle.rules.proofs.Tests.{eq?}
 use Rattle.model.specs.Lists.{join, from}
 use Rattle.model.specs.Shape.{Shape, segmentSize, entries, topOf, cardsEver, cardWidth}
 use Rattle.model.specs.Model.{Card, Store, fresh}
-use Rattle.model.specs.Layout.{farthest, leastEntries, mostWidth, Cell, directoryAt, segmentsAt, shapeOk, boundsWord, ruleWord, faultWidth, freeCell, cardCell, faultCell, chained, headOr, wordsOf, part, cardChains, faultChains, cardsAt, faultsAt, lengthFor, header, directory, segments, front, encode}
-use Rattle.model.proofs.Shapes.{shaped, entries-some, width-least, width-most, top-most, few-cards, few-faults}
+use Rattle.model.specs.Layout.{farthest, leastEntries, Cell, directoryAt, segmentsAt, shapeOk, boundsWord, ruleWord, faultWidth, freeCell, cardCell, faultCell, chained, headOr, wordsOf, part, cardChains, faultChains, cardsAt, faultsAt, lengthFor, header, directory, segments, front, encode}
+use Rattle.model.proofs.Shapes.{shaped, entries-some, width-least, width-most, top-most, few-cards, few-faults, mostWidth}
 use Rattle.model.proofs.Rep.{directory-length}
 use Rattle.store.specs.Fresh.{behind, leading, cellsTo}
 
