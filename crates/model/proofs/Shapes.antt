@@ -11,20 +11,17 @@ use lib.ListN.{length, getD, replicate}
 use borrow.Author.Tests.{eqb-true}
 use Rattle.rules.specs.Table.{top}
 use Rattle.rules.proofs.Tests.{both, all-of}
+use Rattle.model.specs.Bounds.{leastWidth, mostWidth, leastEntries, cardsEver}
 use Rattle.model.specs.Lists.{between}
-use Rattle.model.specs.Shape.{Shape, entries, topOf, cardWidth, mostCards, mostFaults, cardsEver, faultsEver, need}
+use Rattle.model.specs.Shape.{Shape, entries, topOf, cardWidth, mostCards, mostFaults, faultsEver, need}
 use Rattle.model.specs.Model.{Card}
-use Rattle.model.specs.Layout.{formatAt, limitAt, faultLimitAt, boundsAt, leastWidth, leastEntries, firstUpper, firstLower, cardCell, limitsOk, formatOk, boundsWord, shapeOk, shapeOf}
+use Rattle.model.specs.Layout.{formatAt, limitAt, faultLimitAt, boundsAt, firstUpper, firstLower, cardCell, limitsOk, formatOk, boundsWord, shapeOk, shapeOf}
 use Rattle.model.specs.Words.{newWords}
 use Rattle.model.proofs.Lists.{between-is}
 
 pub width-least : (sh : Shape) → leastWidth ≤ cardWidth sh
 unfolding cardWidth
 width-least sh = omega arith
-
--- the most words that a card cell has in any format
-abbrev pub mostWidth : ℕ
-mostWidth = 9
 
 pub width-most : (sh : Shape) → cardWidth sh ≤ mostWidth
 unfolding cardWidth

@@ -88,16 +88,6 @@ faultsAt sh = cardsAt sh + cardWidth sh * sh .limit
 unfoldable pub lengthFor : Shape → ℕ
 lengthFor sh = faultsAt sh + faultWidth * sh .faultLimit
 
--- what all formats keep to: the fewest words of a card cell, the fewest entries of a directory, and a number above every whole length
-abbrev pub leastWidth : ℕ
-leastWidth = 9
-
-abbrev pub leastEntries : ℕ
-leastEntries = 16
-
-abbrev pub farthest : ℕ
-farthest = 65536
-
 -- the words of a card cell: next, serial length, four words of serial from `toSerial` on, first fault, last fault, fault count
 abbrev pub toNext : ℕ
 toNext = 0

@@ -12,3 +12,5 @@ pub mod Plain
 pub mod Runs
 pub mod Job
 pub mod Deeds
+-- not of document 01: bounds over all formats, for laws and inner contracts
+pub mod Bounds

@@ -29,10 +29,7 @@ mostCards sh = 1024
 unfoldable pub mostFaults : Shape → ℕ
 mostFaults sh = 2048
 
--- the most cards and the most faults that a store of any format can hold
-abbrev pub cardsEver : ℕ
-cardsEver = 1024
-
+-- the most faults that a store of any format can hold
 abbrev pub faultsEver : ℕ
 faultsEver = 2048
 

@@ -10,11 +10,12 @@ use native.Mathlib.Omega.{arith}
 use borrow.Author.Tests.{eq-eqb, ne-eqb}
 use lib.Dec.{eqb}
 use lib.ListN.{length, getD, set, length-set, take, drop}
+use Rattle.model.specs.Bounds.{mostWidth, cardsEver}
 use Rattle.model.specs.Lists.{between}
-use Rattle.model.specs.Shape.{segmentSize, Shape, entries, topOf, cardsEver, cardWidth}
+use Rattle.model.specs.Shape.{segmentSize, Shape, entries, topOf, cardWidth}
 use Rattle.model.specs.Layout.{toNext, faultWidth, segmentsAt, cardsAt, faultsAt, lengthFor, shapeOk, cellAt, cardWord, faultWord}
 use Rattle.model.proofs.Places.{cellAt-below}
-use Rattle.model.proofs.Shapes.{top-most, entries-some, width-least, width-most, shaped, few-cards, few-faults, mostWidth}
+use Rattle.model.proofs.Shapes.{top-most, entries-some, width-least, width-most, shaped, few-cards, few-faults}
 use Rattle.store.specs.declared.cells.Header.{Header}
 use Rattle.store.specs.Cells.{shapeIn, Room, Sized, widthOf, cellWord, sameKey, metFirst, freeFits, limitOf}
 use Rattle.store.proofs.Rows.{testFrom}

@@ -16,11 +16,12 @@ use lib.ListN.{length, getD, set, take, drop, replicate, drop-of-length-le, leng
 use lib.Seq.{take-all, take-at, length-take-le}
 use Rattle.rules.specs.Table.{least}
 use Rattle.rules.proofs.Tests.{eq?}
+use Rattle.model.specs.Bounds.{mostWidth, leastEntries, cardsEver, farthest}
 use Rattle.model.specs.Lists.{join, from}
-use Rattle.model.specs.Shape.{Shape, segmentSize, entries, topOf, cardsEver, cardWidth}
+use Rattle.model.specs.Shape.{Shape, segmentSize, entries, topOf, cardWidth}
 use Rattle.model.specs.Model.{Card, Store, fresh}
-use Rattle.model.specs.Layout.{farthest, leastEntries, Cell, directoryAt, segmentsAt, shapeOk, boundsWord, ruleWord, faultWidth, freeCell, cardCell, faultCell, chained, headOr, wordsOf, part, cardChains, faultChains, cardsAt, faultsAt, lengthFor, header, directory, segments, front, encode}
-use Rattle.model.proofs.Shapes.{shaped, entries-some, width-least, width-most, top-most, few-cards, few-faults, mostWidth}
+use Rattle.model.specs.Layout.{Cell, directoryAt, segmentsAt, shapeOk, boundsWord, ruleWord, faultWidth, freeCell, cardCell, faultCell, chained, headOr, wordsOf, part, cardChains, faultChains, cardsAt, faultsAt, lengthFor, header, directory, segments, front, encode}
+use Rattle.model.proofs.Shapes.{shaped, entries-some, width-least, width-most, top-most, few-cards, few-faults}
 use Rattle.model.proofs.Rep.{directory-length}
 use Rattle.store.specs.Fresh.{behind, leading, cellsTo}
 

@@ -12,7 +12,8 @@ use borrow.Author.Tests.{eq-eqb, ne-eqb, lt-ltb, le-ltb}
 use Rattle.rules.specs.Table.{least, splits, contracts}
 use Rattle.rules.proofs.Tests.{by-cases}
 use Rattle.rules.proofs.States.{State, state-of, size-low}
-use Rattle.model.specs.Shape.{Shape, topOf, cardsEver, faultsEver}
+use Rattle.model.specs.Bounds.{cardsEver}
+use Rattle.model.specs.Shape.{Shape, topOf, faultsEver}
 use Rattle.model.specs.Serial.{validSerial, validFault}
 use Rattle.model.specs.Model.{Store, Card, held, faultsHeld, size, bucket, chainFor, found, historyIn, removed, contractScan}
 use Rattle.model.specs.Layout.{heldAt, faultsHeldAt, toFirst, segmentsAt, follow, cardWord, decode, sound}

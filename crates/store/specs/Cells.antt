@@ -7,10 +7,11 @@ use lib.Dec.{eqb}
 use lib.ListN.{length, take, getD}
 use Rattle.rules.specs.Code.{codeOf}
 use Rattle.rules.specs.Table.{top, addressOf}
+use Rattle.model.specs.Bounds.{leastWidth, leastEntries, cardsEver, farthest}
 use Rattle.model.specs.Lists.{between, all, from}
-use Rattle.model.specs.Shape.{segmentSize, Shape, topOf, cardWidth, cardsEver, faultsEver, need}
+use Rattle.model.specs.Shape.{segmentSize, Shape, topOf, cardWidth, faultsEver, need}
 use Rattle.model.specs.Serial.{validSerial, validFault}
-use Rattle.model.specs.Layout.{maxpAt, pAt, toNext, toLength, toSerial, toDay, toCode, farthest, leastEntries, leastWidth, directoryAt, segmentsAt, faultWidth, cardsAt, faultsAt, lengthFor, shapeOk, shapeOf, cardWord, faultWord, packed, bytesOf}
+use Rattle.model.specs.Layout.{maxpAt, pAt, toNext, toLength, toSerial, toDay, toCode, directoryAt, segmentsAt, faultWidth, cardsAt, faultsAt, lengthFor, shapeOk, shapeOf, cardWord, faultWord, packed, bytesOf}
 use Rattle.model.specs.Calls.{Terms}
 use Rattle.store.specs.declared.front.Shape as told
 use Rattle.store.specs.declared.cells.Header.{Header}

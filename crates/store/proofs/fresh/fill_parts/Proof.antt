@@ -5,9 +5,10 @@ use Prim.Native.Nat.{ℕ, _+_, _-_, _*_, _≤_, _<_}
 use native.Mathlib.Omega.{arith}
 use borrow.Author.Needs.{needs}
 use borrow.Rule.Slice.PartMut.{putMid, mid-len}
+use Rattle.model.specs.Bounds.{farthest}
 use Rattle.model.specs.Shape.{Shape, topOf, cardWidth}
 use Rattle.model.specs.Model.{fresh}
-use Rattle.model.specs.Layout.{directoryAt, farthest, faultWidth, lengthFor, segmentsAt, header, directory, segments}
+use Rattle.model.specs.Layout.{directoryAt, faultWidth, lengthFor, segmentsAt, header, directory, segments}
 use Rattle.model.proofs.Rep.{segments-length}
 use Rattle.model.proofs.Fresh.{fair-fresh}
 use Rattle.store.specs.Fresh.{cellsTo}

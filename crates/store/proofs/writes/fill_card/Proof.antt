@@ -1,10 +1,10 @@
 -- `writes::fill_card` meets its contract: cell i stands whole in the part.
+use Rattle.model.specs.Bounds.{leastWidth}
 use mathlib.Core.Path.{_≡_, ap}
 use Prim.Native.Nat.{ℕ, _+_, _-_, _*_, _≤_}
 use native.Mathlib.Omega.{arith}
 use borrow.Author.Needs.{needs}
 use lib.ListN.{length}
-use Rattle.model.specs.Layout.{leastWidth}
 use Rattle.store.proofs.writes.fill_card.Statement.{statement}
 use Rattle.store.proofs.writes.fill_card.Tie as tie
 
