@@ -38,6 +38,9 @@ pub mod Counts
 pub mod Deeds
 pub mod Jobs
 pub mod Refused
+-- What the definitions mean, in the words of document 01
+pub mod Valid
+pub mod Fields
 -- What each change writes
 pub mod Whole
 pub mod Segments
