@@ -41,6 +41,8 @@ pub mod Refused
 -- What the definitions mean, in the words of document 01
 pub mod Valid
 pub mod Fields
+pub mod Decimals
+pub mod LineForms
 -- What each change writes
 pub mod Whole
 pub mod Segments
