@@ -1,19 +1,23 @@
 -- The forms of a job's line. A line asks for an act exactly where it has the act's form, byte by byte, and any other line is bad, number 12
--- (`line-means`). Its fields are the pieces between the spaces, so the form is read off them, and a line of that form has these fields.
+-- (`line-means`): its fields are the pieces between the spaces, so the form is read off them, and a line of that form has these fields. A
+-- serial field is valid exactly where it is a serial, number 4 else (`field-means`), and travels as its own bytes (`field-serial`).
 use mathlib.Core.Path.{_≡_, refl, sym, ap, _∙_, subst}
 use mathlib.Core.Logic.{_⊎_, inl, inr, ⊎-elim, _↔_}
 use mathlib.Core.List.{List, [], _∷_, _++_}
 use mathlib.Core.Bool.{true, _&&_}
-use Prim.Native.Nat.{ℕ, _≤_, _<_}
+use Prim.Native.Nat.{ℕ, _+_, _-_, _≤_, _<_}
 use native.Mathlib.Omega.{arith}
 use lib.Dec.{ltb}
-use lib.ListN.{length}
+use lib.ListN.{length, take, getD, replicate, length-append, getD-replicate, List·getD-append}
+use lib.Seq.{length-take-le, getD-take, getD-append-add, take-take, take-append-seam}
 use borrow.Author.Tests.{ltb-false, le-ltb}
-use Rattle.rules.proofs.Tests.{by-cases, both, all-of, lt?}
+use Rattle.rules.proofs.Tests.{by-cases, both, all-of}
 use Rattle.model.specs.Lists.{between, all, same}
-use Rattle.model.specs.Job.{fields, isNumber, valueFrom, Line, bad, enter, show, withdraw, file, kind, two, four, fromFields, lineOf}
+use Rattle.model.specs.Job.{fields, isNumber, valueFrom, Line, bad, enter, show, withdraw, file, kind, two, four, fromFields, lineOf, padded}
+use Rattle.model.specs.Serial.{validSerial}
 use Rattle.model.proofs.Lists.{between-is, same-eq, Every, every-imp}
 use Rattle.model.proofs.Walks.{every-all, all-every}
+use Rattle.model.proofs.Valid.{SerialByte, SerialMeans, valid-means}
 use Rattle.model.proofs.Fields.{Without, FieldsMean, fields-are, fields-mean}
 use Rattle.model.proofs.Decimals.{Digit, worth, value-means, digits-without}
 
@@ -24,13 +28,13 @@ pub record NumberField (f : List ℕ) (v : ℕ) : Type 0 where
   pub digit : Every Digit f
   pub value : worth f ≡ v
 
--- a letter, a space and a serial
+-- a letter, a space (32) and a serial
 pub record Asks (letter : ℕ) (serial line : List ℕ) : Type 0 where
   pub form : line ≡ letter ∷ 32 ∷ serial
   pub one-field : Without 32 serial
   pub short : length line ≤ 64
 
--- `F`, serial, day and code, with a space between each two
+-- `F` (70), serial, day and code, with a space between each two
 pub record AsksFile (serial : List ℕ) (day code : ℕ) (line : List ℕ) : Type 0 where
   pub day-field : List ℕ
   pub code-field : List ℕ
@@ -40,7 +44,7 @@ pub record AsksFile (serial : List ℕ) (day code : ℕ) (line : List ℕ) : Typ
   pub code-is : NumberField code-field code
   pub short : length line ≤ 64
 
--- `E`, `S` or `W` and a serial, or `F`, serial, day, code
+-- `E` (69), `S` (83) or `W` (87) and a serial, or `F`, serial, day, code
 abbrev pub Form : Line → List ℕ → Type 0
 Form bad l = ⊥
 Form (enter s) l = Asks 69 s l
@@ -141,7 +145,7 @@ form-line (file s day code) l a =
     })
     ∙ rw (is-number (a .day-field) day (a .day-is), is-number (a .code-field) code (a .code-is), value-means (a .day-field), value-means (a .code-field), a .day-is .value, a .code-is .value)
 
--- what a line asks for, by its bytes
+-- what a line asks for, by its bytes: `E` enters, `S` shows, `W` withdraws, `F` files, and a line with none of these forms is bad
 pub record LineMeans (l : List ℕ) : Type 0 where
   pub enters : (s : List ℕ) → (lineOf l ≡ enter s) ↔ Asks 69 s l
   pub shows : (s : List ℕ) → (lineOf l ≡ show s) ↔ Asks 83 s l
@@ -165,3 +169,35 @@ line-means l =
         λ none. ⊎-elim (λ b. b) (λ f. absurd (none (lineOf l) f)) (line-form l),
       );
     }
+
+-- a serial field, made sixteen bytes
+module _ (f : List ℕ) where
+  padded-long : length (padded f) ≡ 16
+  unfolding padded
+  padded-long = length-take-le 16 (f ++ replicate 16 0) (omega (arith, length-append f (replicate 16 0)))
+
+  padded-at : (i : ℕ) → i < length f → i < 16 → getD (padded f) i 0 ≡ getD f i 0
+  unfolding padded
+  padded-at i h k = getD-take 16 (f ++ replicate 16 0) i 0 k ∙ List·getD-append f (replicate 16 0) 0 i h
+
+  padded-past : (i : ℕ) → length f ≤ i → i < 16 → getD (padded f) i 0 ≡ 0
+  unfolding padded
+  padded-past i h k =
+      let d : i ≡ length f + (i - length f) = omega arith in
+      getD-take 16 (f ++ replicate 16 0) i 0 k
+      ∙ ap (λ (j : ℕ). getD (f ++ replicate 16 0) j 0) d
+      ∙ getD-append-add f (replicate 16 0) (i - length f) 0
+      ∙ getD-replicate 16 (i - length f) 0 0 (omega arith)
+
+  -- it is valid exactly where the field is a serial; number 4 is for every other field
+  pub field-means : (validSerial (padded f) (length f) ≡ true) ↔ SerialMeans f
+  field-means =
+      let v = valid-means (padded f) (length f) padded-long in (
+        λ e. let m = v .0 e in
+            record { some = m .some; most = m .most; each = λ i h. subst SerialByte (padded-at i h (omega (arith, m .most))) (m .each i h) },
+        λ m. v .1 (record { some = m .some; most = m .most; each = λ i h. subst SerialByte (sym (padded-at i h (omega (arith, m .most)))) (m .each i h); unused = padded-past }),
+      )
+
+  pub field-serial : length f ≤ 16 → take (length f) (padded f) ≡ f
+  unfolding padded
+  field-serial h = take-take (length f) 16 (f ++ replicate 16 0) h ∙ take-append-seam f (replicate 16 0)

@@ -1,6 +1,6 @@
 -- What a valid serial and a valid fault are, byte by byte and bound by bound: `serial-means` of a serial by itself, `valid-means` of one that
 -- travels as sixteen bytes and a length, `invalid-means` for number 4, `fault-means` and `no-fault-means` for number 5.
-use mathlib.Core.Path.{_≡_, refl, sym, ap, _∙_}
+use mathlib.Core.Path.{_≡_, refl, sym}
 use mathlib.Core.Logic.{_⊎_, inl, inr, ⊎-elim, _↔_}
 use mathlib.Core.List.{List, [], _∷_}
 use mathlib.Core.Bool.{Bool, true, false, _&&_, _||_, or-true}
