@@ -22,6 +22,7 @@ glued sep [] = []
 glued sep (f ∷ []) = f
 glued sep (f ∷ g ∷ fs) = f ++ (sep ∷ glued sep (g ∷ fs))
 
+-- pieces, one or more, none with a separator in it, that make the text
 pub record FieldsMean (sep : ℕ) (text : List ℕ) (fs : List (List ℕ)) : Type 0 where
   pub some : 1 ≤ length fs
   pub whole : Every (Without sep) fs
