@@ -56,7 +56,7 @@ turnOf w x out at t =
 
 -- the longest answer: four numbers of ten digits, three spaces, LF, and 22 bytes for each fault
 abbrev pub longest : ℕ
-longest = 44 + 22 * mostFaults
+longest = 44 + 22 * faultsEver
 
 -- a turn of the program, held to it
 pub record Turns (t : Turn) (at : ℕ) (r : Turned) (words out : List ℕ) : Type 0 where

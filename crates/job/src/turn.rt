@@ -5,6 +5,7 @@ ghost use mathlib.Core.Bool.{true};
 ghost use Prim.Native.Nat.{_+_, _*_, _≤_};
 ghost use lib.ListN.{length};
 ghost use Rattle.model.specs.Layout.{decode, encode, sound};
+ghost use Rattle.model.specs.Shape.{faultsEver};
 ghost use Rattle.store.specs.Plans.{Plans};
 ghost use Rattle.job.specs.Counts.{tallyOf};
 ghost use Rattle.job.specs.Text.{Puts, AnswerLong, answerOf};
@@ -21,7 +22,6 @@ use store::plans;
 use store::plans::Plan;
 use store::shows;
 use store::withdraws;
-ghost use Rattle.model.specs.Shape.{faultsEver};
 
 // Whether the answer fitted, where the text ends now, and the tally after the line.
 pub struct Turned {

@@ -5,10 +5,10 @@ ghost use Prim.Native.Nat.{_≤_, _<_};
 ghost use lib.Dec.{eqb};
 ghost use lib.ListN.{length, getD};
 ghost use Rattle.model.specs.Layout.{faultWidth, cardWord, faultWord};
+ghost use Rattle.model.specs.Shape.{cardWidth};
 ghost use Rattle.store.specs.Cells.{shapeIn, Sized, Read, limitOf, widthOf, cellWord, sameKey, metFirst, bytesAt, freeFits, faultFits, cardFits, Suits, cellFits};
 use crate::layout;
 use crate::serial;
-ghost use Rattle.model.specs.Shape.{cardWidth};
 
 // What a store keeps for life (format, limits, load bounds), where its parts begin, how many buckets it can have and how many words a card
 // cell has, and its state: read once.

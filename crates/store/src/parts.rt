@@ -4,6 +4,7 @@ ghost use mathlib.Core.Bool.{cond};
 ghost use Prim.Native.Nat.{_+_, _≤_};
 ghost use lib.ListN.{length, getD};
 ghost use Rattle.model.specs.Layout.{directoryAt, freeAt, freeFaultsAt, shapeOf};
+ghost use Rattle.model.specs.Shape.{need};
 ghost use Rattle.store.specs.Cells.{shapeIn, Read, cellFits};
 ghost use Rattle.store.specs.Walk.{walkOf, Did};
 ghost use Rattle.store.specs.Checker.{Asks, nextIn, heldWord, partOf, DidPart, DidCheck};
@@ -14,7 +15,6 @@ use crate::front;
 use crate::layout;
 use crate::walks;
 use crate::walks::Walked;
-ghost use Rattle.model.specs.Shape.{need};
 
 // How many cells a part has, the number that marks its first, and how many chains it has beside the free one.
 fn limit_of(h: Header, faults: bool) -> u32

@@ -12,6 +12,7 @@ ghost use Rattle.model.specs.Serial.{validSerial};
 ghost use Rattle.model.specs.Layout.{heldAt, faultsHeldAt, freeAt, toNext, toFirst, toLast, toCount, segmentsAt, faultWidth, follow, last as lastOf};
 ghost use Rattle.model.specs.Meaning.{nextFault};
 ghost use Rattle.model.specs.Words.{cardAt, faultAt, linkAt, placeWords, fileWords, clearWords, giveWords, removeWords};
+ghost use Rattle.model.specs.Shape.{cardWidth};
 ghost use Rattle.store.specs.Cells.{shapeIn, Sized};
 ghost use Rattle.store.specs.Search.{Ends};
 ghost use Rattle.store.specs.Writes.{MayPlace, MayFile, MayRemove};
@@ -19,7 +20,6 @@ use crate::cells;
 use crate::cells::Header;
 use crate::layout;
 use crate::serial;
-ghost use Rattle.model.specs.Shape.{cardWidth};
 
 // The word of bucket b, in the segment part.
 fn set_bucket(segments: &mut [u32], b: u32, v: u32)
