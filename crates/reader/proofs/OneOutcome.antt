@@ -1,13 +1,16 @@
 -- One outcome only, gathered for every entry point: two programs that meet its contract give the same and leave the same, on every input.
 -- Each contract is a set of equations with the definitions, so two that meet it are equal to one thing.
 use mathlib.Core.Path.{_≡_, sym, _∙_}
+use mathlib.Core.Bool.{Bool}
 use mathlib.Core.List.{List}
 use Prim.Native.Nat.{ℕ}
 use Rattle.rules.specs.Code.{codeOf}
 use Rattle.rules.specs.Table.{addressOf}
-use Rattle.model.specs.Calls.{Terms, openCall}
+use Rattle.model.specs.Shape.{need}
+use Rattle.model.specs.Layout.{shapeOf, sound}
+use Rattle.model.specs.Calls.{Terms, cleaned, openCall}
 use Rattle.model.specs.Runs.{Act, Call.acting}
-use Rattle.store.specs.Leaves.{Opens}
+use Rattle.store.specs.Leaves.{Opens, Admits}
 use Rattle.store.specs.Sequences.{Given, Meets}
 use Rattle.store.proofs.OneOutcome as Store
 use Rattle.job.specs.Sequences.{Left, Works}
@@ -25,6 +28,13 @@ one-address code maxp p a b e f = e ∙ sym f
 -- `open`
 pub one-opening : (w : List ℕ) (t : Terms) (m n : ℕ) (u v : List ℕ) → Opens (openCall w t) m u → Opens (openCall w t) n v → (m ≡ n) × (u ≡ v)
 one-opening w t m n u v p q = Store.one-opening (openCall w t) p q
+
+-- `admit`, which begins each of the four calls, and `check`
+pub one-admission : (w scratch : List ℕ) (m n : ℕ) (a b : List ℕ) → Admits w scratch m a → Admits w scratch n b → (m ≡ n) × (a ≡ b)
+one-admission w scratch m n a b p q = (p .number-is ∙ sym (q .number-is), p .scratch-is ∙ sym (q .scratch-is))
+
+pub one-verdict : (w scratch : List ℕ) (m n : Bool) (a b : List ℕ) → (m ≡ sound w) × (a ≡ cleaned (need (shapeOf w)) scratch) → (n ≡ sound w) × (b ≡ cleaned (need (shapeOf w)) scratch) → (m ≡ n) × (a ≡ b)
+one-verdict w scratch m n a b p q = (p .0 ∙ sym (q .0), p .1 ∙ sym (q .1))
 
 -- `enter`, `file`, `show` and `withdraw`
 pub one-call : (w scratch : List ℕ) (act : Act) (a b : Given) → Meets w (acting scratch act) a → Meets w (acting scratch act) b → a ≡ b
