@@ -1,16 +1,17 @@
--- `depot::main` is safe and ends: what `answered` gives lies within its bytes, so that many can be written.
-use mathlib.Core.Path.{sym}
-use borrow.Author.Needs.{needs}
+-- `depot::main` is safe and ends: an input that was read to its end lies within the buffer.
+use mathlib.Core.Path.{sym, subst}
 use lib.Seq.{length-take-le}
-use Rattle.reader.proofs.Wholes.{writes-within}
+use borrow.Author.Needs.{needs}
+use Rattle.depot.specs.Reading.{Within}
 use Rattle.depot.proofs.main.Statement.{statement}
 use Rattle.depot.proofs.main.Tie as tie
 
-array-share-prefix-bytes : tie.Need-array-share-prefix-bytes
-array-share-prefix-bytes c = writes-within (c .before .answered .ensures)
+-- what was read lies within the buffer
+array-share-prefix-input : tie.Need-array-share-prefix-input
+array-share-prefix-input c = subst (Within _) (c .before .len .given .1) (c .before .before .before .before .read-all .ensures)
 
-slice-aggregate-write-all : tie.Need-slice-aggregate-write-all
-slice-aggregate-write-all c = let a = c .before .before .answered in sym (length-take-le (a .result .len) (a .result .bytes) (writes-within (a .ensures)))
+slice-aggregate-answer : tie.Need-slice-aggregate-answer
+slice-aggregate-answer c = sym (length-take-le _ _ (array-share-prefix-input (c .before)))
 
 pub main-spec : {M : Type 1} → statement M
 main-spec =
@@ -19,9 +20,11 @@ main-spec =
     (λ c. search needs)
     (λ c κs. search needs)
     (λ c. search needs)
+    array-share-prefix-input
+    slice-aggregate-answer
+    (λ c κs. search needs)
+    (λ c. search needs)
     (λ c. search needs)
     (λ c κs. search needs)
-    array-share-prefix-bytes
-    slice-aggregate-write-all
-    (λ c κs. search needs)
+    (λ c. search needs)
     (λ c. search needs))

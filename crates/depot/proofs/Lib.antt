@@ -1,0 +1,2 @@
+-- What a read's answer says.
+pub mod Answers
