@@ -1,8 +1,10 @@
-// The program: reads one job from standard input and writes its answers. What it writes is `reader::answered` of what it read.
+// The program: reads one job from standard input and writes its answers. What it writes is
+// `reader::answered` of what it read.
 //
-// A read that fails is not the end of the input: what came before it may be a part of a line, so no line is run and nothing is answered.
-// A program has no status of its own. It writes to standard error where something failed and nowhere else; the script `depot` gives the
-// status by that.
+// A read that fails is not the end of the input: what came before it may be a part of a line, so
+// no line is run and nothing is answered. A program has no status of its own. It writes to
+// standard error where something failed and nowhere else; the script `depot` gives the status by
+// that.
 ghost use mathlib.Core.Path.{_≡_};
 ghost use Prim.Native.Nat.{_-_, _≤_};
 ghost use lib.ListN.{length, take};
@@ -18,7 +20,7 @@ enum Step {
     Failed,
 }
 
-// The input in the front of a buffer, to its end or to the end of the buffer, or that a read failed.
+// The input at the front of a buffer, to its end or to the buffer's; or that a read failed.
 enum Input {
     Whole(usize),
     Unread,
@@ -37,7 +39,8 @@ fn brought(got: isize) -> Step
     Step::More(got as usize)
 }
 
-// One read into what is behind the first `len` bytes; those stay as they are. An interrupted read counts as a failed one.
+// One read into what is behind the first `len` bytes; those stay as they are. An interrupted read
+// counts as a failed one.
 fn read_on(fd: i32, buf: &mut [u8], len: usize) -> Step
     requires { ⌜ len ≤ length (now buf) ⌝ }
     ensures { λ r. ⌜ Brings (length (now (buf .entry)) - len) r ⌝ }
