@@ -1,12 +1,20 @@
 //! Every name that the documents cite is there: a definition, a law, a function or a field by its declaration, a file by its path, a
-//! must-fail edit by its file. A law that is renamed and not followed in the documents fails here.
-use std::collections::BTreeSet;
+//! must-fail edit by its file. A name that is cited with a file is declared in that file. A law that is renamed or moved and not
+//! followed in the documents fails here.
+use std::collections::{BTreeMap, BTreeSet};
 use std::fs;
 use std::path::{Path, PathBuf};
 
 /// The documents that cite names.
-const DOCUMENTS: [&str; 6] =
-    ["README.md", "docs/AUDIT.md", "docs/CHECKER.md", "docs/CLAIMS.md", "docs/DECISIONS.md", "docs/SHAMS.md"];
+const DOCUMENTS: [&str; 7] = [
+    "README.md",
+    "docs/AUDIT.md",
+    "docs/CHECKER.md",
+    "docs/CLAIMS.md",
+    "docs/DECISIONS.md",
+    "docs/RULES.md",
+    "docs/SHAMS.md",
+];
 
 /// Words in code type that name nothing of the repository: of the language, the tools, and programs' streams.
 const FOREIGN: [&str; 8] = ["apt-get", "ensures", "false", "qemu-user", "requires", "rt", "stdin", "stdout"];
@@ -45,52 +53,168 @@ fn declared_law(line: &str) -> Option<&str> {
     (declares && !name.starts_with('-')).then_some(name)
 }
 
-/// The names that a file of code declares: what follows these words, and the fields of structs.
+/// The names that a file of code declares: what follows these words, the fields of structs, and what it hands on from others.
 fn declared_code(text: &str, names: &mut BTreeSet<String>) {
-    for word in ["fn ", "struct ", "const ", "mod ", "as ", "pub "] {
-        for (at, _) in text.match_indices(word) {
-            let name: String =
-                text[at + word.len()..].chars().take_while(|c| c.is_ascii_alphanumeric() || *c == '_').collect();
-            names.insert(name);
-        }
+    let word_of =
+        |piece: &str| -> String { piece.chars().take_while(|c| c.is_ascii_alphanumeric() || *c == '_').collect() };
+    for word in ["fn ", "struct ", "enum ", "const ", "mod ", "as ", "pub "] {
+        names.extend(text.match_indices(word).map(|(at, _)| word_of(&text[at + word.len()..])));
+    }
+    for line in text.lines().filter(|line| line.starts_with("pub use ")) {
+        names.extend(line.rsplit("::").next().map(word_of));
     }
 }
 
-/// All that is declared in the crates and in the second program, and what a crate is called.
-fn declared() -> BTreeSet<String> {
-    let mut names = BTreeSet::new();
+/// What each file of the crates, of the hosts and of the tools declares.
+fn declarations() -> BTreeMap<PathBuf, BTreeSet<String>> {
+    let mut all = BTreeMap::new();
     for (folder, ending) in [("crates", "antt"), ("crates", "rt"), ("crates", "edit"), ("host", "rs"), ("tools", "py")]
     {
         let mut found = Vec::new();
         files(&root().join(folder), ending, &mut found);
         for path in found {
             let text = read(&path);
+            let mut names = BTreeSet::new();
             if ending == "antt" {
                 names.extend(text.lines().filter_map(declared_law).map(String::from));
             } else {
                 declared_code(&text, &mut names);
             }
-            names.insert(path.file_name().expect("a file's name").to_string_lossy().into_owned());
-            names.insert(path.file_stem().expect("a file's name").to_string_lossy().into_owned());
+            all.insert(path, names);
         }
     }
-    names
+    all
 }
 
-/// The pieces of a document in code type that can be names: one word of letters, digits, hyphens, underscores and dots.
+/// All that is declared anywhere, and what the files are called.
+fn declared() -> BTreeSet<String> {
+    let mut all = BTreeSet::new();
+    for (path, names) in declarations() {
+        all.extend(names);
+        all.insert(path.file_name().expect("a file's name").to_string_lossy().into_owned());
+        all.insert(path.file_stem().expect("a file's name").to_string_lossy().into_owned());
+    }
+    all
+}
+
+/// Whether a piece in code type can be a name: one word of letters, digits, hyphens, underscores and dots.
+fn is_name(piece: &str) -> bool {
+    piece.len() > 1
+        && piece.starts_with(|c: char| c.is_ascii_alphabetic())
+        && piece.chars().all(|c| c.is_ascii_alphanumeric() || "-_.".contains(c))
+        && piece.contains(|c: char| c.is_ascii_lowercase())
+}
+
+/// Whether a piece in code type is a file or a folder of the crates or of the hosts, by its path or by a file's name alone.
+fn is_place(piece: &str) -> bool {
+    let is_path = ["crates/", "host/"].iter().any(|folder| piece.starts_with(folder));
+    let is_file = [".antt", ".rt", ".rs"].iter().any(|ending| piece.ends_with(ending));
+    (is_path || is_file) && !piece.contains(char::is_whitespace)
+}
+
+/// The names that a document cites.
 fn cited(text: &str) -> BTreeSet<String> {
-    let is_name = |piece: &&str| {
-        piece.len() > 1
-            && piece.starts_with(|c: char| c.is_ascii_alphabetic())
-            && piece.chars().all(|c| c.is_ascii_alphanumeric() || "-_.".contains(c))
-            && piece.contains(|c: char| c.is_ascii_lowercase())
-    };
     text.split("```")
         .step_by(2)
         .flat_map(|prose| prose.split('`').skip(1).step_by(2))
-        .filter(is_name)
+        .filter(|piece| is_name(piece))
         .map(String::from)
         .collect()
+}
+
+/// A name, and where a document says that it stands.
+type Standing = (String, String);
+
+/// The names that a document cites with a file: `a`, `b` in `file`; `a` and `b` (`file`); `file` `a`, `b`; and two cells of a table
+/// with a file in the first and its names in the second.
+fn standing_in_prose(text: &str) -> Vec<Standing> {
+    let is_named = |piece: &str| is_name(piece) && !is_place(piece);
+    let mut found = Vec::new();
+    for prose in text.split("```").step_by(2) {
+        // text and code type by turns: code type has the odd places
+        let pieces: Vec<&str> = prose.split('`').map(str::trim).collect();
+        let is_list = |between: &str| [",", "and", ", and"].contains(&between);
+        for at in (1..pieces.len()).step_by(2).filter(|&at| is_place(pieces[at])) {
+            let mut names = Vec::new();
+            if at > 2 && ["in", "("].contains(&pieces[at - 1]) {
+                let mut k = at - 2;
+                names.push(pieces[k]);
+                while k > 2 && is_list(pieces[k - 1]) {
+                    k -= 2;
+                    names.push(pieces[k]);
+                }
+            }
+            if at + 2 < pieces.len() && ["", "|"].contains(&pieces[at + 1]) {
+                let mut k = at + 2;
+                names.push(pieces[k]);
+                while k + 2 < pieces.len() && is_list(pieces[k + 1]) {
+                    k += 2;
+                    names.push(pieces[k]);
+                }
+            }
+            let named = names.into_iter().filter(|name| is_named(name));
+            found.extend(named.map(|name| (name.to_string(), pieces[at].to_string())));
+        }
+    }
+    found
+}
+
+/// The files that docs/CLAIMS.md means by a short name, as the table at its top says.
+fn short(kind: &str, name: &str) -> Vec<String> {
+    let (folder, ending) = match kind {
+        "def" => ("specs", "antt"),
+        "law" => ("proofs", "antt"),
+        _ => ("src", "rt"),
+    };
+    let places = match (kind, name, name.split_once('/')) {
+        (_, _, Some((owner, name))) => vec![format!("crates/{owner}/{folder}/{name}.{ending}")],
+        ("code", "lib", _) => vec!["crates/rules/src/lib.rt".to_string()],
+        ("code", "store" | "job" | "reader", _) => vec![format!("crates/{name}/src/lib.rt")],
+        ("code", _, _) => vec![format!("crates/store/src/{name}.rt")],
+        _ => ["rules", "model", "store", "reader"]
+            .iter()
+            .filter(|owner| kind == "def" || **owner != "reader")
+            .map(|owner| format!("crates/{owner}/{folder}/{name}.{ending}"))
+            .collect(),
+    };
+    places.into_iter().filter(|place| root().join(place).is_file()).collect()
+}
+
+/// The names that a cell of docs/CLAIMS.md cites with a file: a kind, the short name of a file, names, as in def Model `size`.
+/// A kind holds until the next one, a file until a word that is no part of a list, or a semicolon or a colon. What stands in
+/// brackets begins without a file.
+fn standing_in_claim(cell: &str) -> Vec<(String, Vec<String>)> {
+    let mut kind = "";
+    let mut files: Vec<String> = Vec::new();
+    let mut outside = Vec::new();
+    let mut found = Vec::new();
+    for (at, piece) in cell.split('`').enumerate() {
+        if at % 2 == 1 {
+            if !files.is_empty() && is_name(piece) && !is_place(piece) {
+                found.push((piece.to_string(), files.clone()));
+            }
+            continue;
+        }
+        let spaced =
+            ["(", ")", ";", ":", ","].iter().fold(piece.to_string(), |t, sign| t.replace(sign, &format!(" {sign} ")));
+        for word in spaced.split_whitespace() {
+            match word {
+                "def" => kind = "def",
+                "law" => kind = "law",
+                "code" => kind = "code",
+                "(" => outside.push(std::mem::take(&mut files)),
+                ")" => files = outside.pop().unwrap_or_default(),
+                "," | "and" | "to" | "field" | "fields" => {}
+                _ => {
+                    files = short(kind, word);
+                    if files.is_empty() && word.starts_with(|c: char| c.is_ascii_uppercase()) {
+                        files = ["def", "law"].iter().flat_map(|kind| short(kind, word)).collect();
+                    }
+                }
+            }
+        }
+    }
+    found
 }
 
 /// The paths that a document cites: pieces in code type with a slash and no space.
@@ -146,6 +270,54 @@ fn names_are_declared() {
     assert!(missing.is_empty(), "cited and not declared: {missing:#?}");
 }
 
+/// Whether a file, or one of the files of this name or below this folder, declares a name.
+fn stands(declarations: &BTreeMap<PathBuf, BTreeSet<String>>, name: &str, place: &str) -> bool {
+    let is_file_name = !place.contains('/');
+    declarations.iter().any(|(path, names)| {
+        let is_there = if is_file_name {
+            path.file_name().map_or(false, |file| file == place)
+        } else {
+            path.starts_with(root().join(place))
+        };
+        is_there && names.contains(name)
+    })
+}
+
+#[test]
+fn names_stand_in_their_files() {
+    let declarations = declarations();
+    let mut missing = Vec::new();
+    let mut count = 0;
+    for document in DOCUMENTS {
+        for (name, place) in standing_in_prose(&read(&root().join(document))) {
+            count += 1;
+            if !stands(&declarations, &name, &place) {
+                missing.push(format!("{document}: {name} in {place}"));
+            }
+        }
+    }
+    assert!(count > 100, "only {count} names are cited with a file");
+    assert!(missing.is_empty(), "cited with a file that does not declare it: {missing:#?}");
+}
+
+#[test]
+fn claims_stand_in_their_files() {
+    let declarations = declarations();
+    let mut missing = Vec::new();
+    let mut count = 0;
+    let claims = read(&root().join("docs/CLAIMS.md"));
+    for cell in claims.lines().filter(|line| line.starts_with("| ")).filter_map(|line| line.split(" | ").nth(1)) {
+        for (name, places) in standing_in_claim(cell) {
+            count += 1;
+            if !places.iter().any(|place| stands(&declarations, &name, place)) {
+                missing.push(format!("{name} in {}", places.join(", ")));
+            }
+        }
+    }
+    assert!(count > 400, "only {count} names are cited with a file");
+    assert!(missing.is_empty(), "docs/CLAIMS.md cites with a file that does not declare it: {missing:#?}");
+}
+
 #[test]
 fn paths_exist() {
     for document in DOCUMENTS {
@@ -166,4 +338,25 @@ fn edits_exist() {
         }
     }
     assert!(count > 20, "only {count} edits are cited");
+}
+
+/// The numbers of the sections of docs/RULES.md.
+fn sections() -> BTreeSet<usize> {
+    let text = read(&root().join("docs/RULES.md"));
+    text.lines()
+        .filter_map(|line| line.strip_prefix("## ")?.split_once(' '))
+        .filter_map(|(number, _)| number.parse().ok())
+        .collect()
+}
+
+#[test]
+fn claims_cite_sections_of_the_rules() {
+    let sections = sections();
+    let claims = read(&root().join("docs/CLAIMS.md"));
+    for heading in claims.lines().filter(|line| line.starts_with("## ")) {
+        let (_, behind) = heading.split_once("(RULES.md").unwrap_or_else(|| panic!("{heading} cites no section"));
+        for number in behind.split(|c: char| !c.is_ascii_digit()).filter_map(|word| word.parse().ok()) {
+            assert!(sections.contains(&number), "{heading}: there is no section {number}");
+        }
+    }
 }
