@@ -1,6 +1,6 @@
 //! Every name that the documents cite is there: a definition, a law, a function or a field by its declaration, a file by its path, a
 //! must-fail edit by its file. A name that is cited with a file is declared in that file. A law that is renamed or moved and not
-//! followed in the documents fails here.
+//! followed in the documents fails here. Decisions are numbered.
 use std::collections::{BTreeMap, BTreeSet};
 use std::fs;
 use std::path::{Path, PathBuf};
@@ -338,6 +338,45 @@ fn edits_exist() {
         }
     }
     assert!(count > 20, "only {count} edits are cited");
+}
+
+/// The numbers of the entries of docs/DECISIONS.md, in the order in which they stand: an item of a list, or a paragraph, that begins
+/// with its title in bold type. An entry without a number is 0.
+fn decisions() -> Vec<usize> {
+    let text = read(&root().join("docs/DECISIONS.md"));
+    let mut numbers = Vec::new();
+    for line in text.lines() {
+        let title = line.trim_start_matches("**");
+        let before = title.split_once(". ").map_or("", |(before, _)| before);
+        match before.parse() {
+            Ok(number) => numbers.push(number),
+            Err(_) if line.starts_with("**") => numbers.push(0),
+            Err(_) => {}
+        }
+    }
+    numbers
+}
+
+#[test]
+fn decisions_are_numbered() {
+    let numbers = decisions();
+    let mut sorted = numbers.clone();
+    sorted.sort_unstable();
+    let through: Vec<usize> = (1..=numbers.len()).collect();
+    assert_eq!(sorted, through, "each decision has a number of its own, and none is left out");
+}
+
+#[test]
+fn cited_decisions_are_there() {
+    let numbers = decisions();
+    for (document, sign) in [("docs/RULES.md", "(D "), ("docs/CLAIMS.md", "`docs/DECISIONS.md` ")] {
+        let text = read(&root().join(document));
+        for (at, _) in text.match_indices(sign) {
+            let digits: String = text[at + sign.len()..].chars().take_while(char::is_ascii_digit).collect();
+            let number = digits.parse().unwrap_or_else(|_| panic!("{document}: no number behind {sign}"));
+            assert!(numbers.contains(&number), "{document}: there is no decision {number}");
+        }
+    }
 }
 
 /// The numbers of the sections of docs/RULES.md.
