@@ -1,6 +1,6 @@
 //! Every name that the documents cite is there: a definition, a law, a function or a field by its declaration, a file by its path, a
 //! must-fail edit by its file. A name that is cited with a file is declared in that file. A law that is renamed or moved and not
-//! followed in the documents fails here. Decisions are numbered.
+//! followed in the documents fails here. Decisions are numbered, and lines of prose end by column 100.
 use std::collections::{BTreeMap, BTreeSet};
 use std::fs;
 use std::path::{Path, PathBuf};
@@ -15,6 +15,9 @@ const DOCUMENTS: [&str; 7] = [
     "docs/RULES.md",
     "docs/SHAMS.md",
 ];
+
+/// The documents whose lines of prose end by column 100.
+const NARROW: [&str; 3] = ["README.md", "docs/AUDIT.md", "docs/RULES.md"];
 
 /// Words in code type that name nothing of the repository: of the language, the tools, and programs' streams.
 const FOREIGN: [&str; 8] = ["apt-get", "ensures", "false", "qemu-user", "requires", "rt", "stdin", "stdout"];
@@ -398,4 +401,17 @@ fn claims_cite_sections_of_the_rules() {
             assert!(sections.contains(&number), "{heading}: there is no section {number}");
         }
     }
+}
+
+#[test]
+fn prose_ends_by_column_100() {
+    let mut long = Vec::new();
+    for document in NARROW {
+        for (at, line) in read(&root().join(document)).lines().enumerate() {
+            if line.chars().count() > 100 && !line.trim_start().starts_with('|') {
+                long.push(format!("{document}:{}", at + 1));
+            }
+        }
+    }
+    assert!(long.is_empty(), "lines of prose over 100 columns: {long:#?}");
 }
