@@ -33,6 +33,7 @@ pub mod Numbers
 pub mod Demand3
 pub mod Demand2
 pub mod Outcomes
+pub mod WordNumbers
 pub mod Demands
 pub mod Counts
 pub mod Deeds

@@ -192,10 +192,10 @@ module _ (f : List ℕ) where
   -- it is valid exactly where the field is a serial; number 4 is for every other field
   pub field-means : (validSerial (padded f) (length f) ≡ true) ↔ SerialMeans f
   field-means =
-      let v = valid-means (padded f) (length f) padded-long in (
+      let v = valid-means (padded f) (length f) in (
         λ e. let m = v .0 e in
             record { some = m .some; most = m .most; each = λ i h. subst SerialByte (padded-at i h (omega (arith, m .most))) (m .each i h) },
-        λ m. v .1 (record { some = m .some; most = m .most; each = λ i h. subst SerialByte (sym (padded-at i h (omega (arith, m .most)))) (m .each i h); unused = padded-past }),
+        λ m. v .1 (record { some = m .some; most = m .most; each = λ i h. subst SerialByte (sym (padded-at i h (omega (arith, m .most)))) (m .each i h); unused = λ i h k. padded-past i h (omega (arith, padded-long)) }),
       )
 
   pub field-serial : length f ≤ 16 → take (length f) (padded f) ≡ f

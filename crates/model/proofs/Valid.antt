@@ -1,15 +1,15 @@
 -- What a valid serial and a valid fault are, byte by byte and bound by bound: `serial-means` of a serial by itself, `valid-means` of one that
--- travels as sixteen bytes and a length, `invalid-means` for number 4, `fault-means` and `no-fault-means` for number 5.
-use mathlib.Core.Path.{_≡_, refl, sym}
+-- travels as bytes and a length, `invalid-means` for number 4, `fault-means` and `no-fault-means` for number 5.
+use mathlib.Core.Path.{_≡_, refl, sym, subst}
 use mathlib.Core.Logic.{_⊎_, inl, inr, ⊎-elim, _↔_}
 use mathlib.Core.List.{List, [], _∷_}
 use mathlib.Core.Bool.{Bool, true, false, _&&_, _||_, or-true}
 use Prim.Native.Nat.{ℕ, zero, suc, _+_, _-_, _≤_, _<_}
 use native.Mathlib.Omega.{arith}
-use lib.Dec.{eqb}
-use lib.ListN.{length, getD, take, drop, length-drop}
+use lib.Dec.{ltb, eqb}
+use lib.ListN.{length, getD, take, drop, length-drop, List·getD-eq-default}
 use lib.Seq.{length-take-le, getD-take, getD-drop}
-use borrow.Author.Tests.{eqb-true, eq-eqb}
+use borrow.Author.Tests.{eqb-true, eq-eqb, ltb-true, ltb-false}
 use Rattle.rules.proofs.Tests.{by-cases, not-both, both, all-of, either}
 use Rattle.model.specs.Lists.{between, all}
 use Rattle.model.specs.Serial.{allowed, serialOk, validSerial, validFault}
@@ -62,14 +62,26 @@ serial-means y = (
   λ m. all-of (between-is 1 16 (length y) .1 (m .some, m .most)) (at-all allowed y (λ i h. byte-means (getD y i 0) .1 (m .each i h))),
 )
 
--- sixteen bytes and a length, as a serial travels
+-- bytes and a length, as a serial travels: it has 1 to 16 of the bytes, each allowed, and all that it does not use are zero
 pub record ValidMeans (bytes : List ℕ) (n : ℕ) : Type 0 where
   pub some : 1 ≤ n
   pub most : n ≤ 16
   pub each : (i : ℕ) → i < n → SerialByte (getD bytes i 0)
-  pub unused : (i : ℕ) → n ≤ i → i < 16 → getD bytes i 0 ≡ 0
+  pub unused : (i : ℕ) → n ≤ i → i < length bytes → getD bytes i 0 ≡ 0
 
-module _ (bytes : List ℕ) (n : ℕ) (l : length bytes ≡ 16) where
+no-byte : SerialByte 0 → ⊥
+no-byte (inl h) = omega arith
+no-byte (inr (inl h)) = omega arith
+no-byte (inr (inr h)) = omega arith
+
+-- there are as many bytes as are used, since past the last is none that is allowed
+enough-bytes : (bytes : List ℕ) (n : ℕ) → 1 ≤ n → SerialByte (getD bytes (n - 1) 0) → n ≤ length bytes
+enough-bytes bytes n some last =
+    by-cases (ltb (length bytes) n)
+    (λ e. absurd (no-byte (subst SerialByte (List·getD-eq-default bytes 0 {n = n - 1} (omega (arith, ltb-true (length bytes) n e))) last)))
+    (λ e. ltb-false (length bytes) n e)
+
+module _ (bytes : List ℕ) (n : ℕ) where
   valid-is : validSerial bytes n ≡ true → ValidMeans bytes n
   unfolding validSerial
   valid-is e =
@@ -88,7 +100,7 @@ module _ (bytes : List ℕ) (n : ℕ) (l : length bytes ≡ 16) where
   is-valid : ValidMeans bytes n → validSerial bytes n ≡ true
   unfolding validSerial
   is-valid m =
-      let long = length-take-le n bytes (omega (arith, m .most)) in
+      let long = length-take-le n bytes (enough-bytes bytes n (m .some) (m .each (n - 1) (omega (arith, m .some)))) in
       all-of (eq-eqb (length (take n bytes)) n long)
       (all-of (serial-means (take n bytes) .1 (record { some = omega (arith, m .some); most = omega (arith, m .most); each = λ i h. rw (getD-take n bytes i 0 (omega arith)) (m .each i (omega arith)) }))
       (at-all (eqb 0) (drop n bytes)
