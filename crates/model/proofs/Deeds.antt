@@ -47,7 +47,7 @@ module _ (w : List ℕ) (ok : sound w ≡ true) where
       (λ h. absurd (omega (arith, tidy-long (shapeOf w))))
       (λ h. rw (read-back (perform (decode w) a .store) (good-act (decode w) (sound-good w ok .0) a .fair)))
 
-  line-step : (l : Line) → stepOf (decode w) l ≡ stepBy w (actsOf l)
+  pub line-step : (l : Line) → stepOf (decode w) l ≡ stepBy w (actsOf l)
   unfolding stepOf
   line-step Line.bad = refl
   line-step (Line.enter f) = act-step (Act.enter (padded f) (length f))
@@ -63,7 +63,7 @@ module _ (w : List ℕ) (ok : sound w ≡ true) where
   step-store (Line.file f day code) = refl
 
 -- a job that goes through lines from one state to another answers some first ones of them
-record Through (w : List ℕ) (xs : List (List ℕ)) (from to : Run) : Type 0 where
+pub record Through (w : List ℕ) (xs : List (List ℕ)) (from to : Run) : Type 0 where
   pub done : ℕ
   pub lines : to .lines ≡ from .lines + done
   pub store : to .store ≡ decode (run w (callsOf (shapeOf w) (take done xs)))
@@ -121,7 +121,7 @@ either : {A : Type 0} (P : A → Type 0) (b : Bool) (x y : A) → P x → P y �
 either P true x y p q = p
 either P false x y p q = q
 
-lines-run : (xs : List (List ℕ)) (w : List ℕ) → sound w ≡ true → (room : ℕ) (r : Run) → r .store ≡ decode w → Through w xs r (runLines xs room r)
+pub lines-run : (xs : List (List ℕ)) (w : List ℕ) → sound w ≡ true → (room : ℕ) (r : Run) → r .store ≡ decode w → Through w xs r (runLines xs room r)
 lines-run [] w ok room r e = subst (Through w [] r) (sym (run-none room r)) (record { done = 0; lines = omega arith; store = e; text = sym (append-nil (r .text)) })
 lines-run (x ∷ xs) w ok room r e =
     subst (Through w (x ∷ xs) r) (sym (run-step x xs room r))

@@ -1,30 +1,34 @@
 -- The job by its numbers. Its tests come one after the other (`job-cases`); its lines are all answered, or stop before one whose answer exceeds the
--- output left (`lines-end`). So each number of a job is given exactly when the rules say (`job-numbers`). A line is answered by 12 exactly where
+-- output left (`lines-end`), and that is where the answers of all lines exceed the output. So each number of a job is given exactly when the rules
+-- say, by what the job is given alone (`job-numbers`). A line is answered by 12 exactly where
 -- its form is bad, and by 10 never, since the room it is given has two words for each fault that a store can hold (`line-numbers`).
 use Prim.Native.Nat.{ℕ, suc, _+_, _*_, _≤_, _<_}
-use mathlib.Core.Path.{_≡_, refl, ap}
+use mathlib.Core.Path.{_≡_, refl, ap, _∙_}
 use mathlib.Core.Logic.{_⊎_, inl, inr, ⊎-elim, _↔_}
-use mathlib.Core.List.{List, [], _∷_}
+use mathlib.Core.List.{List, [], _∷_, _++_}
 use mathlib.Core.Bool.{true, false, cond}
 use native.Mathlib.Omega.{arith}
 use lib.Dec.{ltb}
-use lib.ListN.{length, take, getD, length-append, length-replicate}
+use lib.ListN.{length, take, drop, getD, length-append, length-replicate}
+use lib.Seq.{take-all}
 use borrow.Author.Tests.{ltb-true, ltb-false, lt-ltb, le-ltb}
 use Rattle.rules.proofs.Tests.{by-cases, not-both}
 use Rattle.model.specs.Model.{Store, cards, historyIn}
 use Rattle.model.specs.Shape.{faultsEver, need}
 use Rattle.model.specs.Layout.{shapeOf, decode, sound}
 use Rattle.model.specs.Calls.{cleaned}
-use Rattle.model.specs.Runs.{Act, perform}
+use Rattle.model.specs.Runs.{Act, perform, run}
 use Rattle.model.specs.Runs as Runs
 use Rattle.model.specs.Job.{linesOf, Line, bad, enter, show, withdraw, file, kind, lineOf, padded, enough, stepOf, answerText, Tally, Run, runLines, started, Finished, turnedAway, jobIf, mostText, job}
+use Rattle.model.specs.Deeds.{callsOf, saidBy, said}
 use Rattle.model.proofs.Fair.{filings, Good, faults-total}
 use Rattle.model.proofs.Shapes.{few-faults}
 use Rattle.model.proofs.Look.{look}
 use Rattle.model.proofs.Steps.{removed-total}
 use Rattle.model.proofs.Cases.{faults-fit, enter-cases, file-cases}
 use Rattle.model.proofs.Numbers.{hit, miss, show-numbers, withdraw-numbers, act-numbers}
-use Rattle.model.proofs.Deeds.{lines-store}
+use Rattle.model.proofs.Outcomes.{sound-run}
+use Rattle.model.proofs.Deeds.{line-step, Through, lines-run, lines-store, said-at}
 
 -- the job by its tests, whatever is to be shown of it
 module _ (w scratch text out : List ℕ) (t : Tally) (P : Finished → Type 0) where
@@ -87,14 +91,52 @@ lines-fit (x ∷ xs) room r h =
 abbrev pub Reached : List ℕ → List ℕ → List ℕ → Type 0
 Reached w scratch text = (need (shapeOf w) ≤ length scratch) × (length text ≤ mostText) × (sound w ≡ true)
 
+-- the lines on sound words, against the answers that all of them have one after the other
+module _ (w : List ℕ) (ok : sound w ≡ true) (xs : List (List ℕ)) (room : ℕ) (t : Tally) where
+  abbrev ends : Run
+  ends = runLines xs room (started (decode w) t)
+
+  through : Through w xs (started (decode w) t) ends
+  through = lines-run xs w ok room (started (decode w) t) refl
+
+  -- all were answered: what they say was written, and fits
+  answers-fit : AllAnswered xs (started (decode w) t) ends → length (said w xs) ≤ room
+  answers-fit e =
+      let all = take-all (through .done) xs (omega (arith, e .lines, through .lines)) in
+      omega (arith, lines-fit xs room (started (decode w) t) (omega arith), ap length (through .text), ap (λ (l : List (List ℕ)). length (said w l)) all)
+
+  -- it stopped: what was written and the answer of the next line are in front of what they say
+  answers-exceed : Stopped xs room (started (decode w) t) ends → room < length (said w xs)
+  answers-exceed s =
+      let k = through .done in
+      let z : s .done ≡ k = omega (arith, s .lines, through .lines) in
+      let sh = shapeOf w in
+      let v = run w (callsOf sh (take k xs)) in
+      let x = getD xs k [] in
+      let next = said (run w (callsOf sh (take (suc k) xs))) (drop (suc k) xs) in
+      let same = ap (λ (q : Store). answerTo q x) (through .store) ∙ ap (answerText (lineOf x)) (line-step v (sound-run w ok (callsOf sh (take k xs))) (lineOf x)) in
+      omega (
+        arith,
+        rw z at (s .over),
+        ap length same,
+        ap length (through .text),
+        ap length (said-at w ok xs k (omega (arith, s .left))),
+        length-append (said w (take k xs)) (saidBy v x ++ next),
+        length-append (saidBy v x) next,
+      )
+
 -- the table of numbers for a job
 pub record JobNumbers (w scratch text out : List ℕ) (j : Finished) : Type 0 where
   pub short : (j .number ≡ 11) ↔ (length scratch < need (shapeOf w))
   pub long : (j .number ≡ 13) ↔ ((need (shapeOf w) ≤ length scratch) × (mostText < length text))
   pub unsound : (j .number ≡ 3) ↔ ((need (shapeOf w) ≤ length scratch) × (length text ≤ mostText) × (sound w ≡ false))
-  pub stopped : (j .number ≡ 10) ↔ (Reached w scratch text × (j .lines < length (linesOf text)))
-  pub done : (j .number ≡ 0) ↔ (Reached w scratch text × (j .lines ≡ length (linesOf text)))
+  -- the answers that all its lines have, one after the other, exceed the output; or they fit
+  pub stopped : (j .number ≡ 10) ↔ (Reached w scratch text × (length out < length (said w (linesOf text))))
+  pub done : (j .number ≡ 0) ↔ (Reached w scratch text × (length (said w (linesOf text)) ≤ length out))
+  -- 0 if all lines were answered
+  pub answered : (j .number ≡ 0) ↔ (Reached w scratch text × (j .lines ≡ length (linesOf text)))
   -- it stops before a line whose answer with its LF exceeds the output left
+  pub left : j .number ≡ 10 → j .lines < length (linesOf text)
   pub over : j .number ≡ 10 → length out < j .bytes + length (answerTo (decode (j .words)) (getD (linesOf text) (j .lines) []))
 
 module _ (w scratch text out : List ℕ) (t : Tally) where
@@ -110,8 +152,10 @@ module _ (w scratch text out : List ℕ) (t : Tally) where
             short = miss (omega (arith, e .number)) (omega arith);
             long = miss (omega (arith, e .number)) (λ c. omega arith);
             unsound = miss (omega (arith, e .number)) (λ c. not-both ok (c .2));
-            stopped = miss (omega (arith, e .number)) (λ c. omega (arith, e .lines));
-            done = hit (e .number) ((a, b, ok), omega (arith, e .lines));
+            stopped = miss (omega (arith, e .number)) (λ c. omega (arith, answers-fit w ok (linesOf text) (length out) t e));
+            done = hit (e .number) ((a, b, ok), answers-fit w ok (linesOf text) (length out) t e);
+            answered = hit (e .number) ((a, b, ok), omega (arith, e .lines));
+            left = λ n. absurd (omega (arith, e .number));
             over = λ n. absurd (omega (arith, e .number));
           }
       go (inr s) =
@@ -119,8 +163,10 @@ module _ (w scratch text out : List ℕ) (t : Tally) where
             short = miss (omega (arith, s .number)) (omega arith);
             long = miss (omega (arith, s .number)) (λ c. omega arith);
             unsound = miss (omega (arith, s .number)) (λ c. not-both ok (c .2));
-            stopped = hit (s .number) ((a, b, ok), omega (arith, s .lines, s .left));
-            done = miss (omega (arith, s .number)) (λ c. omega (arith, s .lines, s .left));
+            stopped = hit (s .number) ((a, b, ok), answers-exceed w ok (linesOf text) (length out) t s);
+            done = miss (omega (arith, s .number)) (λ c. omega (arith, answers-exceed w ok (linesOf text) (length out) t s));
+            answered = miss (omega (arith, s .number)) (λ c. omega (arith, s .lines, s .left));
+            left = λ n. omega (arith, s .lines, s .left);
             over = λ n. let z : ran .lines ≡ s .done = omega (arith, s .lines) in rw (lines-store w ok (linesOf text) (length out) t, z) (s .over);
           }
 
@@ -133,6 +179,8 @@ module _ (w scratch text out : List ℕ) (t : Tally) where
         unsound = miss (omega arith) (λ c. omega arith);
         stopped = miss (omega arith) (λ c. omega arith);
         done = miss (omega arith) (λ c. omega arith);
+        answered = miss (omega arith) (λ c. omega arith);
+        left = λ n. absurd (omega arith);
         over = λ n. absurd (omega arith);
       })
       (λ a b. record {
@@ -141,6 +189,8 @@ module _ (w scratch text out : List ℕ) (t : Tally) where
         unsound = miss (omega arith) (λ c. omega arith);
         stopped = miss (omega arith) (λ c. omega arith);
         done = miss (omega arith) (λ c. omega arith);
+        answered = miss (omega arith) (λ c. omega arith);
+        left = λ n. absurd (omega arith);
         over = λ n. absurd (omega arith);
       })
       (λ a b no. record {
@@ -149,6 +199,8 @@ module _ (w scratch text out : List ℕ) (t : Tally) where
         unsound = hit refl (a, b, no);
         stopped = miss (omega arith) (λ c. not-both (c .0 .2) no);
         done = miss (omega arith) (λ c. not-both (c .0 .2) no);
+        answered = miss (omega arith) (λ c. not-both (c .0 .2) no);
+        left = λ n. absurd (omega arith);
         over = λ n. absurd (omega arith);
       })
       lines-numbers
