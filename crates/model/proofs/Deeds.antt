@@ -1,6 +1,7 @@
--- A job is the calls of its answered lines (`job-calls`). A line on sound words gives what its call gives (`line-step`); line by line, a job on the store that sound words stand for walks
--- with the calls on the words (`lines-run`). So every sequence of calls and jobs leaves the words of a sequence of calls (`deeds-run`),
--- and the demands hold of it (`deeds-demand3`, `deeds-demand2`, `deeds-demand2-from`), also at every line in the middle of a job (`at-a-line`, `filing-line`).
+-- A job is the calls of its answered lines (`job-calls`). A line on sound words gives what its call gives (`line-step`); line by line, a job on the
+-- store that sound words stand for walks with the calls on the words (`lines-run`). So a job leaves sound words sound (`job-sound`), every sequence
+-- of calls and jobs leaves the words of a sequence of calls (`deeds-run`), and the demands hold of it (`deeds-demand3`, `deeds-limit-of-the-last-open`,
+-- `deeds-demand2`, `deeds-demand2-from`), also at every line in the middle of a job (`at-a-line`, `limit-at-a-line`, `filing-line`).
 use Prim.Native.Nat.{ℕ, zero, suc, _+_, _-_, _≤_, _<_}
 use mathlib.Core.Path.{_≡_, refl, sym, ap, _∙_, subst}
 use mathlib.Core.Logic.{_↔_}
@@ -13,7 +14,7 @@ use Rattle.rules.proofs.Tests.{by-cases}
 use Rattle.model.specs.Serial.{validSerial, validFault}
 use Rattle.model.specs.Model.{Store}
 use Rattle.model.specs.Shape.{Shape, need}
-use Rattle.model.specs.Layout.{shapeOf, encode, decode, sound}
+use Rattle.model.specs.Layout.{shapeOf, encode, decodeAs, decode, sound}
 use Rattle.model.specs.Calls.{Terms, shapeFor, Step, openCall}
 use Rattle.model.specs.Runs.{Act, perform, Call, Call.acting, wordsAfter, run, events, taken, gone, since}
 use Rattle.model.specs.Job.{Line, linesOf, padded, lineOf, enough, stepOf, answerText, Tally, counted, Run, runLines, started, Finished, mostText, job}
@@ -24,7 +25,7 @@ use Rattle.model.proofs.Fresh.{fresh-sound}
 use Rattle.model.proofs.Demand3.{good-act}
 use Rattle.model.proofs.Demand2.{bookOf, emptyBook}
 use Rattle.model.proofs.Outcomes.{read-back, call-cases, opened-fresh, sound-call, shape-call, sound-run}
-use Rattle.model.proofs.Demands.{Demand3, Demand2, demand3, demand2, demand2-from}
+use Rattle.model.proofs.Demands.{Demand3, Demand2, demand3, lastTerms, limit-of-the-last-open, demand2, demand2-from}
 
 run-append : (w : List ℕ) (cs ds : List Call) → run w (cs ++ ds) ≡ run (run w cs) ds
 run-append w [] ds = refl
@@ -38,6 +39,12 @@ tidy-long sh = omega (arith, length-replicate {A = ℕ} (need sh) 0)
 shape-acts : (w : List ℕ) → sound w ≡ true → (scratch : List ℕ) (acts : List Act) → shapeOf (run w (map (acting scratch) acts)) ≡ shapeOf w
 shape-acts w ok scratch [] = refl
 shape-acts w ok scratch (a ∷ acts) = shape-acts (wordsAfter w (acting scratch a)) (sound-call w ok (acting scratch a)) scratch acts ∙ shape-call w ok scratch a
+
+shape-lines : (w : List ℕ) → sound w ≡ true → (sh : Shape) (xs : List (List ℕ)) → shapeOf (run w (callsOf sh xs)) ≡ shapeOf w
+shape-lines w ok sh [] = refl
+shape-lines w ok sh (x ∷ xs) =
+    rw (run-append w (callsBy sh x) (callsOf sh xs))
+    (shape-lines (run w (callsBy sh x)) (sound-run w ok (callsBy sh x)) sh xs ∙ shape-acts w ok (tidy sh) (actsOf (lineOf x)))
 
 module _ (w : List ℕ) (ok : sound w ≡ true) where
   -- an act with enough scratch
@@ -165,6 +172,12 @@ job-calls w ok scratch text out t =
     let q = went w text out t ok r (lines-run (linesOf text) w ok (length out) (started (decode w) t) refl) in
     rw (m, ok) (record { words-are = q .0; bytes-are = ap length (q .1); out-is = ap (λ (l : List ℕ). l ++ drop (length (r .text)) out) (q .1) }))))
 
+-- a job leaves sound words sound, whatever it is given
+pub job-sound : (w : List ℕ) → sound w ≡ true → (scratch text out : List ℕ) (t : Tally) → sound (job w scratch text out t .words) ≡ true
+job-sound w ok scratch text out t =
+    let j = job w scratch text out t in
+    rw (job-calls w ok scratch text out t .words-are) (sound-run w ok (callsOf (shapeOf w) (take (j .lines) (linesOf text))))
+
 -- what lines say, at line k: behind what those before it say stands what it says itself, on the words that they leave
 pub said-at : (w : List ℕ) → sound w ≡ true → (xs : List (List ℕ)) (k : ℕ) → k < length xs
     → let sh = shapeOf w in
@@ -188,13 +201,16 @@ deed-run : (w : List ℕ) → sound w ≡ true → (d : Deed) → wordsBy w d �
 deed-run w ok (calling c) = refl
 deed-run w ok (working scratch text out t) = job-calls w ok scratch text out t .words-are
 
+deed-sound : (w : List ℕ) → sound w ≡ true → (d : Deed) → sound (wordsBy w d) ≡ true
+deed-sound w ok (calling c) = sound-call w ok c
+deed-sound w ok (working scratch text out t) = job-sound w ok scratch text out t
+
 pub deeds-run : (w : List ℕ) → sound w ≡ true → (ds : List Deed) → wordsByAll w ds ≡ run w (callsInAll w ds)
 deeds-run w ok [] = refl
 deeds-run w ok (d ∷ ds) =
     let e = deed-run w ok d in
     let v = wordsBy w d in
-    let sv : sound v ≡ true = rw e (sound-run w ok (callsIn w d)) in
-    deeds-run v sv ds ∙ ap (λ (u : List ℕ). run u (callsInAll v ds)) e ∙ sym (run-append w (callsIn w d) (callsInAll v ds))
+    deeds-run v (deed-sound w ok d) ds ∙ ap (λ (u : List ℕ). run u (callsInAll v ds)) e ∙ sym (run-append w (callsIn w d) (callsInAll v ds))
 
 -- demand 2 over calls and jobs in any order, from any sound store on
 pub deeds-demand2-from : (w : List ℕ) → sound w ≡ true → (ds : List Deed) → Demand2 w (bookOf (decode w)) (callsInAll w ds) × (wordsByAll w ds ≡ run w (callsInAll w ds))
@@ -211,6 +227,10 @@ module _ (w₀ : List ℕ) (t : Terms) (accepted : openCall w₀ t .number ≡ 0
   pub deeds-demand3 : (ds : List Deed) → Demand3 (wordsByAll w ds) (events w (callsInAll w ds))
   deeds-demand3 ds = rw (deeds-run w ok ds) (demand3 w₀ t accepted (callsInAll w ds))
 
+  -- the fault limit in it is the one that the last accepted Open was asked for
+  pub deeds-limit-of-the-last-open : (ds : List Deed) → decode (wordsByAll w ds) .shape .faultLimit ≡ lastTerms w t (callsInAll w ds) .faults
+  deeds-limit-of-the-last-open ds = rw (deeds-run w ok ds) (limit-of-the-last-open w₀ t accepted (callsInAll w ds))
+
   pub deeds-demand2 : (ds : List Deed) → Demand2 w (emptyBook (shapeFor t)) (callsInAll w ds) × (wordsByAll w ds ≡ run w (callsInAll w ds))
   deeds-demand2 ds = (demand2 w₀ t accepted (callsInAll w ds), deeds-run w ok ds)
 
@@ -225,6 +245,13 @@ module _ (w₀ : List ℕ) (t : Terms) (accepted : openCall w₀ t .number ≡ 0
   at-a-line ds xs =
       let ls = callsOf (shapeOf (run w (callsInAll w ds))) xs in
       rw (deeds-run w ok ds, ← (run-append w (callsInAll w ds) ls)) (demand3 w₀ t accepted (callsInAll w ds ++ ls))
+
+  -- no line opens, so the fault limit is that of the last Open before the job
+  pub limit-at-a-line : (ds : List Deed) (xs : List (List ℕ)) → decode (reached ds xs) .shape .faultLimit ≡ lastTerms w t (callsInAll w ds) .faults
+  unfolding decodeAs
+  limit-at-a-line ds xs =
+      let v = wordsByAll w ds in
+      ap (λ (sh : Shape). sh .faultLimit) (shape-lines v (deeds-demand3 ds .stays-sound) (shapeOf v) xs) ∙ deeds-limit-of-the-last-open ds
 
   -- a filing line that is reached, on a valid serial that is held, with day and code in range: 9 exactly at the fault limit
   pub filing-line : (ds : List Deed) (xs : List (List ℕ)) (x field : List ℕ) (day code : ℕ) → lineOf x ≡ Line.file field day code

@@ -2,11 +2,12 @@
 -- ones with short scratch included. Each call is, by `call-cases` and `open-cases`, nothing, a fresh store, or the act on the store that
 -- the words stand for; so what holds of one act holds of one call (`kept-call`, `book-call`), and a run of calls is a fold of that.
 -- `demand3`: the words stay sound, each held card's history is what calls and answers alone tell of its serial, faults accepted are
--- those held and those gone, and 9 is answered exactly when the first less the last is the fault limit. `demand2`: every call tells what
+-- those held and those gone, and 9 is answered exactly when the first less the last is the fault limit, which is the one that the last
+-- accepted Open was asked for (`limit-of-the-last-open`). `demand2`: every call tells what
 -- a plain list of cards would tell, and after every call the store holds under each serial what that list holds; `demand2-from`: the same from any
 -- sound store on, with its own cards as the list.
 use Prim.Native.Nat.{ℕ, _+_, _-_, _≤_}
-use mathlib.Core.Path.{_≡_, refl, sym, _∙_}
+use mathlib.Core.Path.{_≡_, refl, sym, ap, _∙_}
 use mathlib.Core.Logic.{_↔_}
 use mathlib.Core.List.{List, [], _∷_, _++_, map, append-nil, append-assoc, List·Memᴰ}
 use mathlib.Core.Bool.{true, cond}
@@ -16,17 +17,19 @@ use lib.ListN.{length, take}
 use borrow.Author.Tests.{eq-eqb, ne-eqb, lt-ltb, le-ltb}
 use Rattle.model.specs.Serial.{validSerial, validFault}
 use Rattle.model.specs.Model.{Card, cards, faultsHeld, fresh}
-use Rattle.model.specs.Shape.{need}
-use Rattle.model.specs.Layout.{shapeOf, lengthFor, encode, decodeAs, decode, sound}
+use Rattle.model.specs.Shape.{Shape, need}
+use Rattle.model.specs.Layout.{shapeOk, shapeOf, lengthFor, encode, decodeAs, decode, sound}
 use Rattle.model.specs.Calls.{Terms, shapeFor, openCall}
 use Rattle.model.specs.Plain.{slip, Book, Reply, bookOpen}
 use Rattle.model.specs.Runs.{Act.file, perform, Call, Call.opening, Call.acting, outcome, wordsAfter, run, Event, Event.opened, Event.answered, eventsOf, events, history, taken, gone, since, Tell, tellOf, tells, bookCall, bookAfter, bookTells}
 use Rattle.model.proofs.Look.{look}
+use Rattle.model.proofs.Rep.{rep-encode}
+use Rattle.model.proofs.Decode.{shape-at}
 use Rattle.model.proofs.Sound.{sound-is, sound-good}
 use Rattle.model.proofs.Fresh.{fair-fresh, fresh-sound}
 use Rattle.model.proofs.Demand3.{good-act, Kept, kept-fresh, kept-open, kept-act, kept-refused, kept-card, kept-room}
 use Rattle.model.proofs.Demand2.{Agrees, bookOf, plain-agrees, emptyBook, fresh-agrees, call-match}
-use Rattle.model.proofs.Outcomes.{read-back, open-cases, call-cases, opened-fresh, sound-call, sound-run}
+use Rattle.model.proofs.Outcomes.{read-back, open-cases, call-cases, opened-fresh, sound-call, shape-call, sound-run}
 
 -- demand 3
 
@@ -74,6 +77,37 @@ demand3 w t e cs =
     let ok = fresh-sound (shapeFor t) (o .0) in
     let k : Kept (decode (encode (fresh (shapeFor t)))) [] = rw (read-back (fresh (shapeFor t)) (fair-fresh (shapeFor t) (o .0))) (kept-fresh (shapeFor t) (o .0)) in
     rw (o .1) (kept-demand3 (run (encode (fresh (shapeFor t))) cs) (sound-run (encode (fresh (shapeFor t))) ok cs) (events (encode (fresh (shapeFor t))) cs) (kept-run (encode (fresh (shapeFor t))) ok [] k cs))
+
+-- the terms of the last accepted Open of some calls on the words w; where none is accepted, the terms t that they were opened with
+abbrev pub termsAfter : List ℕ → Terms → Call → Terms
+termsAfter w t (opening u) = cond (eqb (openCall w u .number) 0) u t
+termsAfter w t (acting scratch a) = t
+
+abbrev pub lastTerms : List ℕ → Terms → List Call → Terms
+lastTerms w t [] = t
+lastTerms w t (c ∷ cs) = lastTerms (wordsAfter w c) (termsAfter w t c) cs
+
+fresh-shape : (t : Terms) → shapeOk (shapeFor t) ≡ true → shapeOf (encode (fresh (shapeFor t))) ≡ shapeFor t
+unfolding fresh
+fresh-shape t ok = let s = fresh (shapeFor t) in shape-at (encode s) s (rep-encode s (fair-fresh (shapeFor t) ok))
+
+shape-after : (w : List ℕ) → sound w ≡ true → (t : Terms) → shapeOf w ≡ shapeFor t → (c : Call) → shapeOf (wordsAfter w c) ≡ shapeFor (termsAfter w t c)
+shape-after w ok t h (opening u) =
+    open-cases w u (λ r. shapeOf (r .words) ≡ shapeFor (cond (eqb (r .number) 0) u t)) (λ v. h) (λ o v n. h) (λ o v l. fresh-shape u o)
+shape-after w ok t h (acting scratch a) = shape-call w ok scratch a ∙ h
+
+shape-run : (w : List ℕ) → sound w ≡ true → (t : Terms) → shapeOf w ≡ shapeFor t → (cs : List Call) → shapeOf (run w cs) ≡ shapeFor (lastTerms w t cs)
+shape-run w ok t h [] = h
+shape-run w ok t h (c ∷ cs) = shape-run (wordsAfter w c) (sound-call w ok c) (termsAfter w t c) (shape-after w ok t h c) cs
+
+-- the fault limit in `room` is the one that the last accepted Open was asked for
+pub limit-of-the-last-open : (w : List ℕ) (t : Terms) → openCall w t .number ≡ 0 → (cs : List Call)
+    → decode (run (openCall w t .words) cs) .shape .faultLimit ≡ lastTerms (openCall w t .words) t cs .faults
+unfolding decodeAs shapeFor
+limit-of-the-last-open w t e cs =
+    let o = opened-fresh w t e in
+    let v = encode (fresh (shapeFor t)) in
+    rw (o .1) (ap (λ (sh : Shape). sh .faultLimit) (shape-run v (fresh-sound (shapeFor t) (o .0)) t (fresh-shape t (o .0)) cs))
 
 -- demand 2
 
