@@ -9,17 +9,13 @@ use native.Mathlib.Omega.{arith}
 use lib.Dec.{ltb, eqb}
 use lib.ListN.{length, take}
 use borrow.Author.Tests.{eqb-true, eqb-false, ltb-true, ltb-false}
-use Rattle.rules.proofs.Tests.{by-cases, both}
-use Rattle.model.specs.Serial.{serialOk, validSerial, validFault}
+use Rattle.rules.proofs.Tests.{by-cases}
+use Rattle.model.specs.Serial.{validSerial, validFault}
 use Rattle.model.specs.Model.{Store, held, faultsHeld, chainFor, comparisons, placed, removed, splitScan, contractScan, entered, filed, historyIn, withdrawn}
 use Rattle.model.specs.Calls.{Step, gives, refused, stays, written, enterStep, fileStep, showStep, withdrawStep}
 use Rattle.model.proofs.Lists.{length-none}
 use Rattle.model.proofs.Fair.{Good, card-count, fault-count}
 use Rattle.model.proofs.Look.{look, look-once}
-
-pub valid-serial : (bytes : List ℕ) (n : ℕ) → validSerial bytes n ≡ true → serialOk (take n bytes) ≡ true
-unfolding validSerial
-valid-serial bytes n e = both (serialOk (take n bytes)) _ (both (eqb (length (take n bytes)) n) _ e .1) .0
 
 -- no more cards or faults are held than there are cells
 pub cards-fit : (s : Store) → Good s → held s ≤ s .shape .limit

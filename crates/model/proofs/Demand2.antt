@@ -24,7 +24,8 @@ use Rattle.model.proofs.Fair.{one, filings, Fair, Good, faults-total}
 use Rattle.model.proofs.Look.{look, look-cards}
 use Rattle.model.proofs.Steps.{filed-look, filed-total}
 use Rattle.model.proofs.Accepted.{entered-shape, filed-shape, withdrawn-shape, entered-look, entered-total, withdrawn-look, withdrawn-total, fresh-look}
-use Rattle.model.proofs.Cases.{valid-serial, enter-cases, file-cases, show-cases, withdraw-cases}
+use Rattle.model.proofs.Valid.{valid-serial}
+use Rattle.model.proofs.Cases.{enter-cases, file-cases, show-cases, withdraw-cases}
 
 -- a card and its entry
 

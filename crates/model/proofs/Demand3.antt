@@ -26,7 +26,8 @@ use Rattle.model.proofs.Fair.{filings, Good, faults-total}
 use Rattle.model.proofs.Look.{look, card-look}
 use Rattle.model.proofs.Steps.{filed-look, filed-total}
 use Rattle.model.proofs.Accepted.{entered-shape, filed-shape, withdrawn-shape, entered-good, entered-look, entered-total, filed-good, withdrawn-good, withdrawn-look, withdrawn-total, fresh-good, fresh-look}
-use Rattle.model.proofs.Cases.{valid-serial, enter-cases, file-cases, show-cases, withdraw-cases}
+use Rattle.model.proofs.Valid.{valid-serial}
+use Rattle.model.proofs.Cases.{enter-cases, file-cases, show-cases, withdraw-cases}
 use Rattle.model.proofs.Numbers.{file-numbers}
 
 -- every act leaves a good store good

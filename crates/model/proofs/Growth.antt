@@ -1,11 +1,12 @@
 -- A bucket split and two buckets joined, and when the load rules do so. A split parts bucket p in two by the rule that the new state
--- addresses by, and a contraction joins the last bucket behind the one it was split from; every other bucket stays. So nothing that is
--- held changes: not the sums over the cards (`X-total`), not the card of any serial (`X-look`), and each card stands at its new
--- address (`X-fair`). `grown` and `shrunk` do that or nothing, and bring the load back within its bounds (`grown-good`, `shrunk-good`).
+-- addresses by, each part in the order that it had (`split-keeps-order`), and a contraction joins the last bucket behind the one it was
+-- split from; every other bucket stays. So nothing that is held changes: not the sums over the cards (`X-total`), not the card of any
+-- serial (`X-look`), and each card stands at its new address (`X-fair`). `grown` and `shrunk` do that or nothing, and bring the load back
+-- within its bounds (`grown-good`, `shrunk-good`).
 use Prim.Native.Nat.{ℕ, _+_, _-_, _*_, _%_, _≤_, _<_}
 use mathlib.Core.Path.{_≡_, refl, sym, _∙_}
 use mathlib.Core.Logic.{_⊎_, inl, inr, ⊎-elim}
-use mathlib.Core.List.{List, [], _∷_, _++_, append-nil}
+use mathlib.Core.List.{List, [], _∷_, _++_, append-nil, Sublistᴰ}
 use mathlib.Core.Bool.{true, not, cond}
 use native.Mathlib.Nat.{mul-le-mul-left}
 use native.Mathlib.Omega.{arith}
@@ -23,7 +24,7 @@ use Rattle.model.specs.Lists.{all, keep, join, total}
 use Rattle.model.specs.Shape.{topOf}
 use Rattle.model.specs.Model.{Card, Store, cards, held, size, over, under, bucket, addressIn, is, moves, moving, staying, split, grown, contract, shrunk}
 use Rattle.model.specs.Layout.{goodCard}
-use Rattle.model.proofs.Lists.{same-eq, keep-append, keep-keep, all-append, all-imp, all-kept, join-append, getD-set, getD-snoc, getD-front}
+use Rattle.model.proofs.Lists.{same-eq, keep-append, keep-order, keep-keep, all-append, all-imp, all-kept, join-append, getD-set, getD-snoc, getD-front}
 use Rattle.model.proofs.Sums.{total-append, total-set, total-last, total-keep, length-total}
 use Rattle.model.proofs.Shapes.{top-most, Shaped, shaped}
 use Rattle.model.proofs.Fair.{one, named, Fair, Good, host-state, faultWeight, cells-moved, faultCells-moved, size-least}
@@ -36,17 +37,6 @@ module _ (s : Store) (r : Fair s) (more : size s < topOf (s .shape)) where
   room : size s < top
   room = omega (arith, top-most (s .shape))
 
-  pub split-total : (w : Card → ℕ) → total w (cards (split s)) ≡ total w (cards s)
-  unfolding split
-  split-total w =
-      rw (join-append (set (s .buckets) (s .p) (staying s)) (moving s ∷ []), append-nil (moving s))
-      (omega (
-        arith,
-        total-append w (join (set (s .buckets) (s .p) (staying s))) (moving s),
-        total-set w (s .buckets) (s .p) (staying s) (omega (arith, r .number, state-of (topOf (s .shape)) (s .maxp) (s .p) (r .state) .below)),
-        total-keep w (moves s) (bucket s (s .p)),
-      ))
-
   -- the buckets after the split
   pub split-at : (b : ℕ) → bucket (split s) b ≡ cond (eqb b (size s)) (moving s) (cond (eqb b (s .p)) (staying s) (bucket s b))
   unfolding split
@@ -57,6 +47,26 @@ module _ (s : Store) (r : Fair s) (more : size s < topOf (s .shape)) where
         r .number,
         getD-set (s .buckets) (s .p) b (staying s) [] (omega (arith, r .number, state-of (topOf (s .shape)) (s .maxp) (s .p) (r .state) .below)),
       )
+
+  -- both chains that a bucket is parted in keep the relative order of its cards
+  pub split-keeps-order : Sublistᴰ (bucket (split s) (s .p)) (bucket s (s .p)) × Sublistᴰ (bucket (split s) (size s)) (bucket s (s .p))
+  split-keeps-order =
+      let l = bucket s (s .p) in (
+        rw (split-at (s .p), ne-eqb (s .p) (size s) (omega (arith, state-of (topOf (s .shape)) (s .maxp) (s .p) (r .state) .below)), eq-eqb (s .p) (s .p) refl)
+            (keep-order (λ c. not (moves s c)) l),
+        rw (split-at (size s), eq-eqb (size s) (size s) refl) (keep-order (moves s) l),
+      )
+
+  pub split-total : (w : Card → ℕ) → total w (cards (split s)) ≡ total w (cards s)
+  unfolding split
+  split-total w =
+      rw (join-append (set (s .buckets) (s .p) (staying s)) (moving s ∷ []), append-nil (moving s))
+      (omega (
+        arith,
+        total-append w (join (set (s .buckets) (s .p) (staying s))) (moving s),
+        total-set w (s .buckets) (s .p) (staying s) (omega (arith, r .number, state-of (topOf (s .shape)) (s .maxp) (s .p) (r .state) .below)),
+        total-keep w (moves s) (bucket s (s .p)),
+      ))
 
   -- the address of a serial after the split
   moved : (x : List ℕ) → addressIn s x ≡ s .p → addressIn (split s) x ≡ codeOf x % (2 * s .maxp)
@@ -245,7 +255,7 @@ contract-shape s = refl
 module _ (s : Store) (r : Fair s) where
   -- where it must split, there is a bucket to be had
   pub split-room : over s ≡ true → size s < topOf (s .shape)
-  split-room e = splits-true (topOf (s .shape)) (s .shape .upper) (held s) (size s) e .1
+  split-room e = splits-true (topOf (s .shape)) (s .shape .upper) _ (size s) e .1
 
   pub grown-total : (w : Card → ℕ) → total w (cards (grown s)) ≡ total w (cards s)
   unfolding grown

@@ -1,7 +1,7 @@
 -- The job by its numbers. Its tests come one after the other (`job-cases`); its lines are all answered, or stop before one whose answer exceeds the
 -- output left (`lines-end`), and that is where the answers of all lines exceed the output. So each number of a job is given exactly when the rules
--- say, by what the job is given alone (`job-numbers`). A line is answered by 12 exactly where
--- its form is bad, and by 10 never, since the room it is given has two words for each fault that a store can hold (`line-numbers`).
+-- say, by what the job is given alone (`job-numbers`). A line is answered by 12 exactly where its form is bad, and by 10 never, since the room it is
+-- given has two words for each fault that a store can hold (`line-numbers`).
 use Prim.Native.Nat.{ℕ, suc, _+_, _*_, _≤_, _<_}
 use mathlib.Core.Path.{_≡_, refl, ap, _∙_}
 use mathlib.Core.Logic.{_⊎_, inl, inr, ⊎-elim, _↔_}

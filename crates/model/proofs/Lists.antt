@@ -3,7 +3,7 @@
 use Prim.Native.Nat.{ℕ, zero, suc, _+_, _≤_, _<_}
 use mathlib.Core.Path.{_≡_, refl, ap, _∙_}
 use mathlib.Core.Logic.{_≢_, _↔_}
-use mathlib.Core.List.{List, [], _∷_, _++_, map, append-nil, append-assoc}
+use mathlib.Core.List.{List, [], _∷_, _++_, map, append-nil, append-assoc, Sublistᴰ, Sublistᴰ·slnil, Sublistᴰ·cons, Sublistᴰ·cons-cons}
 use mathlib.Core.Bool.{Bool, true, false, not, cond, false≢true}
 use native.Mathlib.Nat.{zero-add, suc-add}
 use native.Mathlib.Numerals.{add-one}
@@ -53,6 +53,11 @@ module _ {A : Type 0} where
   pub keep-append : (f : A → Bool) (a b : List A) → keep f (a ++ b) ≡ keep f a ++ keep f b
   keep-append f [] b = refl
   keep-append f (x ∷ a) b = by-cases (f x) (λ e. rw (e, keep-append f a b)) (λ e. rw (e, keep-append f a b))
+
+  -- what is kept stands in the order that it had
+  pub keep-order : (f : A → Bool) (l : List A) → Sublistᴰ (keep f l) l
+  keep-order f [] = Sublistᴰ·slnil
+  keep-order f (x ∷ l) = by-cases (f x) (λ e. rw e (Sublistᴰ·cons-cons refl (keep-order f l))) (λ e. rw e (Sublistᴰ·cons (keep-order f l)))
 
   -- nothing is kept where f fails; where f goes with g, keeping g first changes nothing, and where against g, leaves nothing
   pub keep-none : (f g : A → Bool) (l : List A) → ((x : A) → g x ≡ true → f x ≡ false) → all g l ≡ true → keep f l ≡ []

@@ -22,7 +22,8 @@ use Rattle.model.proofs.Look.{look}
 use Rattle.model.proofs.Sound.{sound-good}
 use Rattle.model.proofs.Steps.{filed-total}
 use Rattle.model.proofs.Accepted.{entered-total, withdrawn-total}
-use Rattle.model.proofs.Cases.{valid-serial, enter-cases, file-cases, show-cases, withdraw-cases}
+use Rattle.model.proofs.Valid.{valid-serial}
+use Rattle.model.proofs.Cases.{enter-cases, file-cases, show-cases, withdraw-cases}
 use Rattle.model.proofs.Demand3.{good-act}
 use Rattle.model.proofs.Outcomes.{read-back, open-cases}
 use Rattle.model.proofs.Jobs.{job-cases, lines-end}

@@ -112,6 +112,11 @@ module _ (bytes : List ℕ) (n : ℕ) where
   pub invalid-means : (validSerial bytes n ≡ false) ↔ (ValidMeans bytes n → ⊥)
   invalid-means = denied (validSerial bytes n) valid-means
 
+-- what is used of the bytes is a serial by itself
+pub valid-serial : (bytes : List ℕ) (n : ℕ) → validSerial bytes n ≡ true → serialOk (take n bytes) ≡ true
+unfolding validSerial
+valid-serial bytes n e = both (serialOk (take n bytes)) _ (both (eqb (length (take n bytes)) n) _ e .1) .0
+
 -- a day, 1 to 65,535, and a code, 1 to 9,999
 pub record FaultMeans (day code : ℕ) : Type 0 where
   pub first-day : 1 ≤ day

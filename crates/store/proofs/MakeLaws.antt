@@ -26,7 +26,7 @@ use Rattle.model.proofs.Readings.{maxp-at, p-at, held-at, faults-held-at, free-
 use Rattle.model.proofs.Sound.{sound-is, sound-good}
 use Rattle.model.proofs.Look.{look, address-in}
 use Rattle.model.proofs.Steps.{removed-total}
-use Rattle.model.proofs.Cases.{valid-serial}
+use Rattle.model.proofs.Valid.{valid-serial}
 use Rattle.model.proofs.Numbers.{enter-numbers, file-numbers, show-numbers, withdraw-numbers}
 use Rattle.model.proofs.Shapes.{in-card}
 use Rattle.model.proofs.Whole.{taken-in, historyOf}
