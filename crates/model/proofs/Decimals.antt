@@ -146,6 +146,7 @@ module _ (n : ℕ) (h : n < 10 ^ 20) where
   pub decimal-back : valueFrom 0 (decimal n) ≡ n
   decimal-back = value-means (decimal n) ∙ decimal-is n h .value
 
-  -- spaces, colons and LF too
-  pub decimal-without : (b : ℕ) → (Digit b → ⊥) → Without b (decimal n)
-  decimal-without b other = digits-without b (decimal n) other (decimal-is n h .digit)
+-- spaces, colons and LF too, whatever the number
+pub decimal-without : (n b : ℕ) → (Digit b → ⊥) → Without b (decimal n)
+unfolding decimal
+decimal-without n b other = digits-without b (decimal n) other (digits-digit 20 n [] tt)

@@ -36,7 +36,7 @@ unfolding tidy
 tidy-long sh = omega (arith, length-replicate {A = ℕ} (need sh) 0)
 
 -- no acts on a sound store change its shape
-shape-acts : (w : List ℕ) → sound w ≡ true → (scratch : List ℕ) (acts : List Act) → shapeOf (run w (map (acting scratch) acts)) ≡ shapeOf w
+pub shape-acts : (w : List ℕ) → sound w ≡ true → (scratch : List ℕ) (acts : List Act) → shapeOf (run w (map (acting scratch) acts)) ≡ shapeOf w
 shape-acts w ok scratch [] = refl
 shape-acts w ok scratch (a ∷ acts) = shape-acts (wordsAfter w (acting scratch a)) (sound-call w ok (acting scratch a)) scratch acts ∙ shape-call w ok scratch a
 
@@ -197,7 +197,7 @@ said-at w ok (x ∷ xs) (suc k) h =
 
 -- sequences
 
-deed-run : (w : List ℕ) → sound w ≡ true → (d : Deed) → wordsBy w d ≡ run w (callsIn w d)
+pub deed-run : (w : List ℕ) → sound w ≡ true → (d : Deed) → wordsBy w d ≡ run w (callsIn w d)
 deed-run w ok (calling c) = refl
 deed-run w ok (working scratch text out t) = job-calls w ok scratch text out t .words-are
 

@@ -85,7 +85,7 @@ pub record LinesMean (text : List ℕ) (lines : List (List ℕ)) : Type 0 where
   pub last-counts : 1 ≤ length last → lines ≡ before ++ (last ∷ [])
 
 -- one line more in front
-more-lines : (l text : List ℕ) (ls : List (List ℕ)) → Without 10 l → LinesMean text ls → LinesMean (l ++ (10 ∷ text)) (l ∷ ls)
+pub more-lines : (l text : List ℕ) (ls : List (List ℕ)) → Without 10 l → LinesMean text ls → LinesMean (l ++ (10 ∷ text)) (l ∷ ls)
 more-lines l text ls w m =
     record {
       before = l ∷ m .before;

@@ -44,6 +44,7 @@ pub mod Valid
 pub mod Fields
 pub mod Decimals
 pub mod LineForms
+pub mod Heard
 -- What each change writes
 pub mod Whole
 pub mod Segments

@@ -1,5 +1,5 @@
 -- Document 01 as definitions that compute, in its order: serials and faults, the store, the words it stands in, what their soundness means, the calls,
--- the plain list of cards, sequences of calls, the job.
+-- the plain list of cards, sequences of calls, the job, and what its answers tell.
 pub mod Lists
 pub mod Serial
 pub mod Shape
@@ -12,5 +12,6 @@ pub mod Plain
 pub mod Runs
 pub mod Job
 pub mod Deeds
+pub mod Heard
 -- not of document 01: bounds over all formats, for laws and inner contracts
 pub mod Bounds
