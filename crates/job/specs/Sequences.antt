@@ -1,8 +1,14 @@
 -- Sequences of calls and jobs of the program: each with what it was given, what it gave and what it left. A sequence meets the contracts
--- where each of them does, on the words that the one before it left.
-use mathlib.Core.List.{List, [], _∷_}
+-- where each of them does, on the words that the one before it left. What is told of each serial is read off the calls and the numbers given, and off
+-- the lines of each job and the answer lines that stand in its output; nothing inside the store is looked at.
+use mathlib.Core.List.{List, [], _∷_, _++_}
 use Prim.Native.Nat.{ℕ}
-use Rattle.model.specs.Deeds.{Deed, Deed.calling, Deed.working}
+use lib.ListN.{take}
+use Rattle.model.specs.Plain.{Book}
+use Rattle.model.specs.Runs.{Call, Event, Tell, bookAfter}
+use Rattle.model.specs.Job.{linesOf}
+use Rattle.model.specs.Deeds.{callsOf, Deed, Deed.calling, Deed.working}
+use Rattle.model.specs.Heard.{seenIn, toldIn}
 use Rattle.store.specs.Sequences as Calls
 use Rattle.job.specs.Counts.{tallyOf}
 use Rattle.job.specs.Runs.{Did}
@@ -48,3 +54,37 @@ AllMeet w (m ∷ ms) = Meets w m × AllMeet (leftBy m) ms
 abbrev pub endWords : List ℕ → List Made → List ℕ
 endWords w [] = w
 endWords w (m ∷ ms) = endWords (leftBy m) ms
+
+-- the lines that a job answered, and the answer lines in the output that it left
+abbrev pub linesDone : List ℕ → Left → List (List ℕ)
+linesDone text l = take (l .done .lines) (linesOf text)
+
+abbrev pub linesWritten : Left → List (List ℕ)
+linesWritten l = linesOf (take (l .done .bytes) (l .out))
+
+-- what is known outside: the store opened anew, and each act with the number and the faults that the program gave or wrote
+abbrev pub seen : Made → List Event
+seen (called m) = Calls.seen (m .call) (m .gives)
+seen (worked scratch text out t l) = seenIn (linesDone text l) (linesWritten l)
+
+abbrev pub seenOf : List Made → List Event
+seenOf [] = []
+seenOf (m ∷ ms) = seen m ++ seenOf ms
+
+-- what demand 2 compares
+abbrev pub told : Made → List Tell
+told (called m) = Calls.toldOf (m ∷ [])
+told (worked scratch text out t l) = toldIn (linesDone text l) (linesWritten l)
+
+abbrev pub toldOf : List Made → List Tell
+toldOf [] = []
+toldOf (m ∷ ms) = told m ++ toldOf ms
+
+-- the same asked of a plain list: the calls, and for a job those of its answered lines, with scratch as long as the list's own shape needs
+abbrev pub callsTo : Book → Made → List Call
+callsTo b (called m) = m .call ∷ []
+callsTo b (worked scratch text out t l) = callsOf (b .shape) (linesDone text l)
+
+abbrev pub callsToAll : Book → List Made → List Call
+callsToAll b [] = []
+callsToAll b (m ∷ ms) = callsTo b m ++ callsToAll (bookAfter b (callsTo b m)) ms

@@ -170,7 +170,7 @@ pairs-back (f ∷ h) v =
     rw (pair-fields f, decimal-back (f .day) (omega arith), decimal-back (f .code) (omega arith), pairs-back h (v .1))
 
 -- an answer line: what is written is this and an LF, no LF stands in it, and it tells what the step gave
-pub record ReadsBack (l : Line) (room : List ℕ) (r : Step) : Type 0 where
+record ReadsBack (l : Line) (room : List ℕ) (r : Step) : Type 0 where
   pub line : List ℕ
   pub text-is : answerText l r ≡ line ++ (10 ∷ [])
   pub whole : Without 10 line
