@@ -5,18 +5,17 @@
 -- One line of a job that was answered: where its answer stands in the output (`line-said`), and when a filing is answered by 9 (`filing-answered`).
 use mathlib.Core.Path.{_≡_, refl, sym, ap, _∙_}
 use mathlib.Core.Logic.{_↔_}
-use mathlib.Core.Bool.{true, cond}
+use mathlib.Core.Bool.{true}
 use mathlib.Core.List.{List, [], _∷_, _++_, map, append-assoc, append-nil}
 use Prim.Native.Nat.{ℕ, suc, _-_, _≤_, _<_}
 use native.Mathlib.Omega.{arith}
-use lib.Dec.{eqb}
 use lib.ListN.{length, take, drop, getD}
 use lib.Seq.{length-take-le, take-take, take-at, getD-take}
 use Rattle.model.specs.Serial.{validSerial, validFault}
 use Rattle.model.specs.Layout.{shapeOf, sound, decodeAs, decode}
 use Rattle.model.specs.Calls.{Terms, shapeFor, openCall}
 use Rattle.model.specs.Plain.{Book}
-use Rattle.model.specs.Runs.{Call, Call.opening, Call.acting, run, Event, Event.opened, eventsOf, events, taken, gone, since, Tell, tellOf, tells, bookAfter, bookTells}
+use Rattle.model.specs.Runs.{Call, run, Event, eventsOf, events, taken, gone, since, Tell, tells, bookAfter, bookTells}
 use Rattle.model.specs.Job.{Line, linesOf, lineOf, padded, answerText}
 use Rattle.model.specs.Deeds.{actsOf, callsOf, stepBy, saidBy, said, wordsBy, wordsByAll, callsIn, callsInAll}
 use Rattle.model.specs.Heard.{numberIn, seenIn, toldIn}
@@ -29,6 +28,7 @@ use Rattle.model.proofs.Heard.{events-append, tells-append, said-seen, said-tol
 use Rattle.model.proofs.Jobs.{lines-few}
 use Rattle.store.specs.Leaves.{Opens}
 use Rattle.store.specs.Sequences as Calls
+use Rattle.store.proofs.ProgramDemands as Program
 use Rattle.store.proofs.ProgramDemands.{left-words, opened-words}
 use Rattle.job.specs.Counts.{tallyOf}
 use Rattle.job.specs.Sequences.{Left, Works, Made, Made.called, Made.worked, askedIn, leftBy, Meets, AllMeet, endWords, linesDone, linesWritten, seen, seenOf, told, toldOf, callsTo, callsToAll}
@@ -97,14 +97,6 @@ module _ (w : List ℕ) (ok : sound w ≡ true) (scratch text out : List ℕ) (t
 
 -- one call or one job
 
-call-seen : (w : List ℕ) (c : Call) (g : Calls.Given) → Calls.Meets w c g → Calls.seen c g ≡ eventsOf w c
-call-seen w (opening t) g e = ap (λ (n : ℕ). cond (eqb n 0) (opened ∷ []) []) (e .0 .number-is)
-call-seen w (acting scratch act) g e = rw (e .answer .number-is, e .answer .faults-are)
-
-call-told : (w : List ℕ) (c : Call) (g : Calls.Given) → Calls.Meets w c g → record { number = g .answer .number; faults = g .answer .faults; room = g .room } ≡ tellOf w c
-call-told w (opening t) g e = rw (e .0 .number-is, e .1, e .2)
-call-told w (acting scratch act) g e = rw (e .answer .number-is, e .answer .faults-are, e .room-is)
-
 left-is : (w : List ℕ) (m : Made) → Meets w m → leftBy m ≡ wordsBy w (askedIn m)
 left-is w (called m) e = left-words w (m .call) (m .gives) e
 left-is w (worked scratch text out t l) e = e .words-are
@@ -117,12 +109,12 @@ module _ (w : List ℕ) (ok : sound w ≡ true) where
   left-sound m e = rw (left-run m e) (sound-run w ok (callsIn w (askedIn m)))
 
   seen-is : (m : Made) → Meets w m → seen m ≡ events w (callsIn w (askedIn m))
-  seen-is (called m) e = call-seen w (m .call) (m .gives) e ∙ sym (append-nil (eventsOf w (m .call)))
+  seen-is (called m) e = Program.seen-is w (m .call) (m .gives) e ∙ sym (append-nil (eventsOf w (m .call)))
   seen-is (worked scratch text out t l) e =
       job-seen w ok scratch text out t l e ∙ ap (λ (n : ℕ). events w (callsOf (shapeOf w) (take n (linesOf text)))) (e .lines-are)
 
   told-is : (m : Made) → Meets w m → told m ≡ tells w (callsIn w (askedIn m))
-  told-is (called m) e = ap (λ (t : Tell). t ∷ []) (call-told w (m .call) (m .gives) e)
+  told-is (called m) e = ap (λ (t : Tell). t ∷ []) (Program.told-is w (m .call) (m .gives) e)
   told-is (worked scratch text out t l) e =
       job-told w ok scratch text out t l e ∙ ap (λ (n : ℕ). tells w (callsOf (shapeOf w) (take n (linesOf text)))) (e .lines-are)
 

@@ -2,7 +2,7 @@
 -- pieces of digits between spaces, the pairs with a colon in them, and reading gives the step's number, faults and room again (`reads-back`).
 -- No LF stands in it, so the lines of what a job wrote are its answer lines (`next-answer`): what is read off them is what the calls of
 -- the job's lines answer, as events (`said-seen`) and as demand 2 compares them (`said-told`), and at each line in the middle (`seen-before`, `number-read`).
-use Prim.Native.Nat.{ℕ, suc, _*_, _^_, _≤_, _<_}
+use Prim.Native.Nat.{ℕ, suc, _*_, _^_, _<_}
 use mathlib.Core.Path.{_≡_, refl, sym, ap, _∙_, subst}
 use mathlib.Core.List.{List, [], _∷_, _++_, map, append-nil, append-assoc}
 use mathlib.Core.Bool.{true}
@@ -15,22 +15,21 @@ use Rattle.rules.specs.Table.{addressOf}
 use Rattle.rules.proofs.Tests.{both}
 use Rattle.model.specs.Lists.{between}
 use Rattle.model.specs.Serial.{serialOk, validFault}
-use Rattle.model.specs.Shape.{Shape, faultsEver}
-use Rattle.model.specs.Model.{Fault, Card, Store, cards, histories, addressIn, chainFor, is, historyIn}
+use Rattle.model.specs.Shape.{Shape}
+use Rattle.model.specs.Model.{Fault, Card, Store, histories, addressIn, chainFor, is, historyIn}
 use Rattle.model.specs.Layout.{shapeOf, decode, sound, goodCard}
 use Rattle.model.specs.Calls.{Answer, Step, pairs, written}
 use Rattle.model.specs.Runs.{Call, Call.acting, wordsAfter, run, Event, Event.answered, eventsOf, events, Tell, tells}
 use Rattle.model.specs.Job.{fields, linesOf, Line, bad, enter, show, withdraw, file, padded, lineOf, enough, stepOf, decimal, pairText, listed, answerText}
 use Rattle.model.specs.Deeds.{actsOf, tidy, callsBy, callsOf, stepBy, saidBy, said}
 use Rattle.model.specs.Heard.{numberIn, faultsIn, pairsBy, pairsIn, heard, Heard, heardIn, seenIn, toldIn}
+use Rattle.model.proofs.Jobs.{history-fits}
 use Rattle.model.proofs.Lists.{between-is, map-append, Every, every-append, every-keep}
 use Rattle.model.proofs.Walks.{all-every}
-use Rattle.model.proofs.Shapes.{few-faults}
-use Rattle.model.proofs.Fair.{filings, Good, faults-total}
+use Rattle.model.proofs.Fair.{Good}
 use Rattle.model.proofs.Look.{look}
-use Rattle.model.proofs.Steps.{removed-total}
 use Rattle.model.proofs.Sound.{sound-good}
-use Rattle.model.proofs.Cases.{faults-fit, enter-cases, file-cases, show-cases, withdraw-cases}
+use Rattle.model.proofs.Cases.{enter-cases, file-cases, show-cases, withdraw-cases}
 use Rattle.model.proofs.Outcomes.{sound-run}
 use Rattle.model.proofs.Deeds.{shape-acts, line-step, said-at}
 use Rattle.model.proofs.Fields.{Without, glued, fields-mean, more-lines, lines-mean}
@@ -59,10 +58,6 @@ module _ (s : Store) (g : Good s) (y : List ℕ) where
       let b = addressIn s y in
       cards-valid m p b (look s y)
       (every-keep (λ c. goodCard m p b c ≡ true) (is y) (chainFor s y) (all-every (goodCard m p b) (chainFor s y) (g .fair .addressed b)))
-
-  history-fits : length (historyIn s y) ≤ faultsEver
-  history-fits =
-      omega (arith, faults-total (look s y), faults-total (cards s), removed-total s (g .fair) y filings, faults-fit s g, few-faults (s .shape) (g .fair .shape))
 
 -- the answer of a line that was given this room: it lists valid faults, and the room has them at its front
 record Says (l : Line) (room : List ℕ) (r : Step) : Type 0 where

@@ -221,7 +221,7 @@ module _ (w scratch text out : List ℕ) (t : Tally) where
 -- lines
 
 -- a history has at most as many faults as a store of any format can hold
-history-fits : (s : Store) → Good s → (y : List ℕ) → length (historyIn s y) ≤ faultsEver
+pub history-fits : (s : Store) → Good s → (y : List ℕ) → length (historyIn s y) ≤ faultsEver
 history-fits s g y =
     omega (arith, faults-total (look s y), faults-total (cards s), removed-total s (g .fair) y filings, faults-fit s g, few-faults (s .shape) (g .fair .shape))
 

@@ -1,19 +1,24 @@
 -- Demands 2 and 3 of the program itself, over every sequence of its calls after an accepted Open. A call that meets its contract gives and
 -- leaves what the model says, by equations; so a sequence of calls that meet theirs is the model's sequence (`same-words`, `same-events`,
--- `same-tells`), and the model's theorems hold of it.
+-- `same-tells`), and the model's theorems hold of it. `program-room` is the last sentence of demand 3, of a filing that the program answered.
 use mathlib.Core.Path.{_≡_, refl, sym, ap, _∙_}
+use mathlib.Core.Logic.{_↔_}
 use mathlib.Core.Bool.{true, cond}
 use mathlib.Core.List.{List, [], _∷_, map}
-use Prim.Native.Nat.{ℕ}
+use Prim.Native.Nat.{ℕ, _-_, _≤_}
 use lib.Dec.{eqb}
-use Rattle.model.specs.Layout.{decode, sound}
+use lib.ListN.{length, take}
+use Rattle.model.specs.Serial.{validSerial, validFault}
+use Rattle.model.specs.Shape.{need}
+use Rattle.model.specs.Layout.{shapeOf, decode, sound}
 use Rattle.model.specs.Calls.{Terms, shapeFor, openCall}
 use Rattle.model.specs.Plain.{Book}
-use Rattle.model.specs.Runs.{Call, Call.opening, Call.acting, wordsAfter, run, Event.opened, eventsOf, events, tellOf, tells, bookAfter, bookTells}
+use Rattle.model.specs.Runs.{Act, taken, gone, since, Call, Call.opening, Call.acting, wordsAfter, run, Event.opened, eventsOf, events, tellOf, tells, bookAfter, bookTells}
 use Rattle.model.proofs.Demand2.{Agrees, bookOf, emptyBook}
-use Rattle.model.proofs.Demands.{Demand3, Demand2, demand3, demand2, demand2-from}
+use Rattle.model.proofs.Look.{look}
+use Rattle.model.proofs.Demands.{termsAfter, lastTerms, limit-of-the-last-open, Demand3, Demand2, demand3, demand2, demand2-from}
 use Rattle.store.specs.Leaves.{Opens}
-use Rattle.store.specs.Sequences.{Given, Made, Meets, AllMeet, endWords, seen, seenOf, toldOf}
+use Rattle.store.specs.Sequences.{Given, Made, Meets, AllMeet, endWords, seen, seenOf, termsBy, lastAsked, toldOf}
 
 -- the calls alone
 abbrev callsOf : List Made → List Call
@@ -25,13 +30,17 @@ pub left-words : (w : List ℕ) (c : Call) (g : Given) → Meets w c g → g .wo
 left-words w (opening t) g e = e .0 .words-are
 left-words w (acting scratch act) g e = e .words-are
 
-seen-is : (w : List ℕ) (c : Call) (g : Given) → Meets w c g → seen c g ≡ eventsOf w c
+pub seen-is : (w : List ℕ) (c : Call) (g : Given) → Meets w c g → seen c g ≡ eventsOf w c
 seen-is w (opening t) g e = ap (λ (n : ℕ). cond (eqb n 0) (opened ∷ []) []) (e .0 .number-is)
 seen-is w (acting scratch act) g e = rw (e .answer .number-is, e .answer .faults-are)
 
-told-is : (w : List ℕ) (c : Call) (g : Given) → Meets w c g → record { number = g .answer .number; faults = g .answer .faults; room = g .room } ≡ tellOf w c
+pub told-is : (w : List ℕ) (c : Call) (g : Given) → Meets w c g → record { number = g .answer .number; faults = g .answer .faults; room = g .room } ≡ tellOf w c
 told-is w (opening t) g e = rw (e .0 .number-is, e .1, e .2)
 told-is w (acting scratch act) g e = rw (e .answer .number-is, e .answer .faults-are, e .room-is)
+
+terms-are : (w : List ℕ) (t : Terms) (c : Call) (g : Given) → Meets w c g → termsBy t c g ≡ termsAfter w t c
+terms-are w t (opening u) g e = ap (λ (n : ℕ). cond (eqb n 0) u t) (e .0 .number-is)
+terms-are w t (acting scratch act) g e = refl
 
 -- a sequence
 
@@ -60,6 +69,24 @@ pub program-demand3 : (w₀ w : List ℕ) (t : Terms) → Opens (openCall w₀ t
 program-demand3 w₀ w t o ms a =
     let e = opened-words w₀ w t o in
     rw (same-words w ms a, same-events w ms a, e .1) (demand3 w₀ t (e .0) (callsOf ms))
+
+same-terms : (w : List ℕ) (t : Terms) (ms : List Made) → AllMeet w ms → lastAsked t ms ≡ lastTerms w t (callsOf ms)
+same-terms w t [] a = refl
+same-terms w t (m ∷ ms) a =
+    let e = left-words w (m .call) (m .gives) (a .0) in
+    ap (λ (u : Terms). lastAsked u ms) (terms-are w t (m .call) (m .gives) (a .0))
+    ∙ same-terms (m .gives .words) (termsAfter w t (m .call)) ms (a .1)
+    ∙ ap (λ (v : List ℕ). lastTerms v (termsAfter w t (m .call)) (callsOf ms)) e
+
+-- a further filing, otherwise in order, is answered by 9 exactly when faults accepted less faults gone are the fault limit that the last accepted Open was asked for
+pub program-room : (w₀ w : List ℕ) (t : Terms) → Opens (openCall w₀ t) 0 w → (ms : List Made) → AllMeet w ms
+    → (scratch bytes : List ℕ) (n day code : ℕ) (g : Given) → Meets (endWords w ms) (acting scratch (Act.file bytes n day code)) g
+    → need (shapeOf (endWords w ms)) ≤ length scratch → validSerial bytes n ≡ true → validFault day code ≡ true → length (look (decode (endWords w ms)) (take n bytes)) ≡ 1
+    → (g .answer .number ≡ 9) ↔ (since taken (seenOf ms) 0 - since gone (seenOf ms) 0 ≡ lastAsked t ms .faults)
+program-room w₀ w t o ms a scratch bytes n day code g e h v u l =
+    let q = opened-words w₀ w t o in
+    let limit : decode (endWords w ms) .shape .faultLimit ≡ lastAsked t ms .faults = rw (same-words w ms a, same-terms w t ms a, q .1) (limit-of-the-last-open w₀ t (q .0) (callsOf ms)) in
+    rw (e .answer .number-is, ← limit) (program-demand3 w₀ w t o ms a .room scratch bytes n day code h v u l)
 
 -- each answer is that of a plain list, and the store and the list agree on every serial at the end
 pub record AsList (w : List ℕ) (b : Book) (ms : List Made) : Type 0 where

@@ -5,7 +5,7 @@ use mathlib.Core.Bool.{cond}
 use mathlib.Core.List.{List, [], _∷_, _++_, map}
 use Prim.Native.Nat.{ℕ}
 use lib.Dec.{eqb}
-use Rattle.model.specs.Calls.{openCall}
+use Rattle.model.specs.Calls.{Terms, openCall}
 use Rattle.model.specs.Runs.{Call, Call.opening, Call.acting, outcome, Event, Event.opened, Event.answered, Tell}
 use Rattle.store.specs.Leaves.{Opens, Leaves}
 use Rattle.store.specs.declared.Answer as given
@@ -45,6 +45,15 @@ seen (acting scratch act) g = answered act (g .answer .number) (g .answer .fault
 abbrev pub seenOf : List Made → List Event
 seenOf [] = []
 seenOf (m ∷ ms) = seen (m .call) (m .gives) ++ seenOf ms
+
+-- the terms of the last Open that was accepted, where the store was opened with the terms t before
+abbrev pub termsBy : Terms → Call → Given → Terms
+termsBy t (opening u) g = cond (eqb (g .answer .number) 0) u t
+termsBy t (acting scratch act) g = t
+
+abbrev pub lastAsked : Terms → List Made → Terms
+lastAsked t [] = t
+lastAsked t (m ∷ ms) = lastAsked (termsBy t (m .call) (m .gives)) ms
 
 -- what demand 2 compares
 abbrev pub toldOf : List Made → List Tell
