@@ -1,19 +1,17 @@
 #!/usr/bin/env python3
-"""computed.py [VECTORS]: writes crates/model/proofs/Computed.antt, what the definitions of document 01 compute.
+"""computed.py: writes crates/model/proofs/Computed.antt, what the definitions of document 01 compute.
 
-Every expected value is worked out here from document 01 by hand, or is an outside job vector (NNN.in, NNN.out of
-the folder VECTORS, shared/vectors beside the repository unless it is given); antt computes the definitions and
-compares by `refl`. Run it from anywhere; it writes the one file, the same each time.
+Every expected value is worked out here from document 01 by hand, or is a job from outside with its
+answers (NNN.in, NNN.out of tools/vectors); antt computes the definitions and compares by `refl`. Run
+it from anywhere; it writes the one file, the same each time.
 """
 import os
 import re
-import sys
 
 ROOT = os.path.dirname(os.path.dirname(os.path.abspath(__file__)))
-VECTORS = sys.argv[1] if len(sys.argv) > 1 else os.path.join(os.path.dirname(ROOT), "shared", "vectors")
+VECTORS = os.path.join(ROOT, "tools", "vectors")
 
-# vectors whose check takes well under a second
-SMALL = "004 007 010 013 016 019 022 025 028 031 034 037 046 055 061".split()
+SMALL = sorted(name[:-3] for name in os.listdir(VECTORS) if name.endswith(".in"))
 
 WORKED = b"E 7\nE 007\nF 007 100 12\nS 7\nS 007\nE 7\nW 007\nS 007\nF 7 0 5\n"
 WORKED_OUT = b"0 0 0 0\n0 1 0 0\n0 2 0 1\n0 1 0 0\n0 2 0 1 100:12\n6 1 0 0\n0 2 0 1 100:12\n7 1 0 0\n5 0 0 0\n"

@@ -16,9 +16,6 @@ const DOCUMENTS: [&str; 7] = [
     "docs/SHAMS.md",
 ];
 
-/// The documents whose lines of prose end by column 100.
-const NARROW: [&str; 3] = ["README.md", "docs/AUDIT.md", "docs/RULES.md"];
-
 /// Words in code type that name nothing of the repository: of the language, the tools, and programs' streams.
 const FOREIGN: [&str; 8] = ["apt-get", "ensures", "false", "qemu-user", "requires", "rt", "stdin", "stdout"];
 
@@ -406,7 +403,7 @@ fn claims_cite_sections_of_the_rules() {
 #[test]
 fn prose_ends_by_column_100() {
     let mut long = Vec::new();
-    for document in NARROW {
+    for document in DOCUMENTS.iter().chain(&["docs/JOB.md"]) {
         for (at, line) in read(&root().join(document)).lines().enumerate() {
             if line.chars().count() > 100 && !line.trim_start().starts_with('|') {
                 long.push(format!("{document}:{}", at + 1));

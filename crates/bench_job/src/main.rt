@@ -140,14 +140,14 @@ fn run_show(words: &[u32], scratch: &mut [u8], room: &mut [u32], serial: &[u8], 
 }
 
 // A test of soundness.
-fn run_check(words: &[u32], scratch: &mut [u8; job::SCRATCH], s: Sums) -> Sums {
+fn run_check(words: &[u32], scratch: &mut [u8; store::NEED], s: Sums) -> Sums {
     let number = if store::check(words, scratch) { 0 } else { 3 };
     added(s, number, 1, 0)
 }
 
 fn run_frame(
     words: &mut [u32],
-    scratch: &mut [u8; job::SCRATCH],
+    scratch: &mut [u8; store::NEED],
     out: &mut [u8],
     room: &mut [u32],
     kind: u8,
@@ -174,7 +174,7 @@ fn run_frames(
     input: &[u8],
     from: usize,
     words: &mut [u32],
-    scratch: &mut [u8; job::SCRATCH],
+    scratch: &mut [u8; store::NEED],
     out: &mut [u8],
     room: &mut [u32],
     s: Sums,
@@ -200,7 +200,7 @@ fn run_turns(
     from: usize,
     turns: u32,
     words: &mut [u32],
-    scratch: &mut [u8; job::SCRATCH],
+    scratch: &mut [u8; store::NEED],
     out: &mut [u8],
     room: &mut [u32],
     s: Sums,
@@ -218,7 +218,7 @@ fn run_turns(
 fn run_input(
     input: &[u8],
     words: &mut [u32],
-    scratch: &mut [u8; job::SCRATCH],
+    scratch: &mut [u8; store::NEED],
     out: &mut [u8],
     room: &mut [u32],
     s: Sums,
@@ -259,7 +259,7 @@ fn print_sums(s: Sums) {
 fn main() {
     let mut input = [0u8; 262144];
     let mut words = [0u32; layout::MOST_WORDS];
-    let mut scratch = [0u8; job::SCRATCH];
+    let mut scratch = [0u8; store::NEED];
     let mut out = [0u8; 65536];
     let mut room = [0u32; 2 * layout::MOST_FAULTS as usize];
     let n = io::read_full(0, &mut input);

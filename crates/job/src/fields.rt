@@ -20,7 +20,7 @@ pub struct Parsed {
 }
 
 // The longest line without its LF, and the most digits of a number.
-const LONGEST: usize = 64;
+const LONGEST_LINE: usize = 64;
 
 const DIGITS: usize = 9;
 
@@ -174,7 +174,7 @@ fn longer_line(op: u8, serial: &[u8], rest: &[u8]) -> Parsed
 pub fn parse(line: &[u8]) -> Parsed
     ensures { λ r. ⌜ Told (lineOf (now (line .entry))) r ⌝ }
 {
-    if LONGEST < line.len() {
+    if LONGEST_LINE < line.len() {
         return bad_line();
     }
     let first = field_end(line, 0);

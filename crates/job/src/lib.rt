@@ -15,7 +15,6 @@ pub mod tally; // tally.rt: what a job counts
 pub mod text; // text.rt: numbers and answers as text
 mod turn; // turn.rt: one line, from its bytes to its answer
 
-pub use store::NEED as SCRATCH; // the bytes of scratch that a job takes at most: those of the checker
 pub use tally::Tally;
 
 // How a job ended: its number, 0 if all lines were answered, the lines done and the bytes written.
@@ -32,7 +31,7 @@ pub struct Ran {
 }
 
 // The longest job, in bytes.
-pub const LONGEST: usize = 16384;
+pub const MOST_TEXT: usize = 16384;
 
 // The lines of a text on a store known to be sound, one turn a line, until one does not fit.
 fn each_line(words: &mut [u32], room: &mut [u32], text: &[u8], out: &mut [u8], tally: Tally) -> Ran
@@ -103,7 +102,7 @@ pub fn work(words: &mut [u32], scratch: &mut [u8], text: &[u8], out: &mut [u8], 
     if scratch.len() < n {
         return refused(11, tally);
     }
-    if LONGEST < text.len() {
+    if MOST_TEXT < text.len() {
         store::clear(scratch, n);
         return refused(13, tally);
     }

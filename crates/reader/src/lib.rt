@@ -19,12 +19,12 @@ const CARDS: u32 = 256;
 const FAULTS: u32 = 512;
 
 // The words of a store with these limits: 288 + 9 C + 3 F.
-const WORDS: usize = layout::CARDS
-    + layout::CARD * CARDS as usize
-    + layout::FAULT * FAULTS as usize;
+const WORDS: usize = layout::CARDS_AT
+    + layout::CARD_WIDTH * CARDS as usize
+    + layout::FAULT_WIDTH * FAULTS as usize;
 
 // The most that is read: one byte past the longest job tells a full one from one that is too long.
-pub const INPUT: usize = job::LONGEST + 1;
+pub const INPUT: usize = job::MOST_TEXT + 1;
 
 // The bytes of the output that the job is lent.
 const OUTPUT: usize = 16384;
@@ -60,7 +60,7 @@ fn fresh_job(input: &[u8], out: &mut [u8]) -> Done
     ensures { λ r. ⌜ Ended (job opened (blank (need depotShape)) (now (input .entry)) (now (out .entry)) nothing) r (now (out .exit)) ⌝ }
 {
     let mut words = fresh();
-    let mut scratch = [0u8; job::SCRATCH];
+    let mut scratch = [0u8; store::NEED];
     let none = Tally {
         entries: 0,
         withdrawals: 0,

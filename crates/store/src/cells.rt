@@ -75,7 +75,7 @@ pub fn fault_word(w: &[u32], h: Header, i: u32, k: usize) -> u32
     let behind = h.behind;
     let cell = (i - 1) as usize;
     let faults = &w[behind..];
-    faults[layout::FAULT * cell + k]
+    faults[layout::FAULT_WIDTH * cell + k]
 }
 
 // The same of either part.
@@ -101,7 +101,7 @@ fn width_of(h: Header, faults: bool) -> usize
     requires { ⌜ h .width ≡ cardWidth (shapeIn h) ⌝ }
     ensures { λ r. ⌜ r ≡ widthOf (shapeIn h) faults ⌝ }
 {
-    if faults { layout::FAULT } else { h.width }
+    if faults { layout::FAULT_WIDTH } else { h.width }
 }
 
 // A free cell is zero but for its next word.
@@ -128,8 +128,8 @@ fn fault_fits(w: &[u32], h: Header, i: u32) -> bool
     ensures { λ r. ⌜ r ≡ faultFits (shapeIn h) (now (w .entry)) i ⌝ }
 {
     serial::valid_fault(
-        fault_word(w, h, i, layout::DAY),
-        fault_word(w, h, i, layout::CODE),
+        fault_word(w, h, i, layout::TO_DAY),
+        fault_word(w, h, i, layout::TO_CODE),
     )
 }
 
@@ -146,19 +146,19 @@ pub fn same_key(w: &[u32], h: Header, i: u32, j: u32) -> bool
     requires { ⌜ Sized (now w) h × (1 ≤ i) × (i ≤ h .cards) × (1 ≤ j) × (j ≤ h .cards) ⌝ }
     ensures { λ r. ⌜ r ≡ sameKey (shapeIn h) (now (w .entry)) i j ⌝ }
 {
-    if !same_word(w, h, i, j, layout::LENGTH) {
+    if !same_word(w, h, i, j, layout::TO_LENGTH) {
         return false;
     }
-    if !same_word(w, h, i, j, layout::SERIAL) {
+    if !same_word(w, h, i, j, layout::TO_SERIAL) {
         return false;
     }
-    if !same_word(w, h, i, j, layout::SERIAL + 1) {
+    if !same_word(w, h, i, j, layout::TO_SERIAL + 1) {
         return false;
     }
-    if !same_word(w, h, i, j, layout::SERIAL + 2) {
+    if !same_word(w, h, i, j, layout::TO_SERIAL + 2) {
         return false;
     }
-    same_word(w, h, i, j, layout::SERIAL + 3)
+    same_word(w, h, i, j, layout::TO_SERIAL + 3)
 }
 
 // Whether card i is met from cell `first` on before any other card with its serial.
@@ -179,7 +179,7 @@ fn met_first(w: &[u32], h: Header, first: u32, i: u32) -> bool
         if same_key(w, h, j, i) {
             return false;
         }
-        j = card_word(w, h, j, layout::NEXT);
+        j = card_word(w, h, j, layout::TO_NEXT);
         n += 1;
     }
     false
@@ -190,10 +190,10 @@ pub fn bytes_at(w: &[u32], h: Header, i: u32) -> [u8; 16]
     requires { ⌜ Sized (now w) h × (1 ≤ i) × (i ≤ h .cards) ⌝ }
     ensures { λ r. ⌜ r ≡ bytesAt (shapeIn h) (now (w .entry)) i ⌝ }
 {
-    let a = card_word(w, h, i, layout::SERIAL);
-    let b = card_word(w, h, i, layout::SERIAL + 1);
-    let d = card_word(w, h, i, layout::SERIAL + 2);
-    let e = card_word(w, h, i, layout::SERIAL + 3);
+    let a = card_word(w, h, i, layout::TO_SERIAL);
+    let b = card_word(w, h, i, layout::TO_SERIAL + 1);
+    let d = card_word(w, h, i, layout::TO_SERIAL + 2);
+    let e = card_word(w, h, i, layout::TO_SERIAL + 3);
     serial::unpack(a, b, d, e)
 }
 
@@ -202,7 +202,7 @@ fn card_fits(w: &[u32], h: Header, b: u32, i: u32) -> bool
     requires { ⌜ Read (now w) h × (b < h .top) × (1 ≤ i) × (i ≤ h .cards) ⌝ }
     ensures { λ r. ⌜ r ≡ cardFits (shapeIn h) (now (w .entry)) b i ⌝ }
 {
-    let len = card_word(w, h, i, layout::LENGTH) as usize;
+    let len = card_word(w, h, i, layout::TO_LENGTH) as usize;
     let bytes = bytes_at(w, h, i);
     if !serial::valid_serial(bytes, len) {
         return false;

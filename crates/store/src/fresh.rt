@@ -34,7 +34,7 @@ fn fresh_header(s: Shape) -> [u32; layout::HEADER]
         0,
         1,
         1,
-        layout::DIRECTORY as u32,
+        layout::DIRECTORY_AT as u32,
         segments as u32,
         base as u32,
         behind as u32,
@@ -105,8 +105,8 @@ fn fill_head(part: &mut [u32], s: Shape)
 {
     let row = fresh_header(s);
     let segments = front::segments_at(s) as u32;
-    put_row(&mut part[0..layout::DIRECTORY], row);
-    put_first(&mut part[layout::DIRECTORY..], segments);
+    put_row(&mut part[0..layout::DIRECTORY_AT], row);
+    put_first(&mut part[layout::DIRECTORY_AT..], segments);
 }
 
 // The parts of a fresh store, lent on one after the other from where they begin.
@@ -126,7 +126,7 @@ fn fill_parts(
     fill_head(&mut words[0..segments], s);
     clear(&mut words[segments..base]);
     fill_cells(&mut words[base..behind], width, cards);
-    fill_cells(&mut words[behind..], layout::FAULT, faults);
+    fill_cells(&mut words[behind..], layout::FAULT_WIDTH, faults);
 }
 
 // All words of a fresh store.

@@ -31,8 +31,8 @@ pub fn shape_for(cards: u32, faults: u32) -> Shape
         format: layout::FORMAT,
         cards,
         faults,
-        upper: layout::UPPER,
-        lower: layout::LOWER,
+        upper: layout::FIRST_UPPER,
+        lower: layout::FIRST_LOWER,
     }
 }
 
@@ -43,10 +43,10 @@ fn shape_of(w: &[u32]) -> Shape
 {
     Shape {
         format: cells::word(w, layout::FORMAT_AT),
-        cards: cells::word(w, layout::LIMIT),
-        faults: cells::word(w, layout::FAULT_LIMIT),
-        upper: layout::UPPER,
-        lower: layout::LOWER,
+        cards: cells::word(w, layout::LIMIT_AT),
+        faults: cells::word(w, layout::FAULT_LIMIT_AT),
+        upper: layout::FIRST_UPPER,
+        lower: layout::FIRST_LOWER,
     }
 }
 
@@ -57,10 +57,10 @@ fn format_ok(s: Shape) -> bool
     if s.format != layout::FORMAT {
         return false;
     }
-    if s.upper != layout::UPPER {
+    if s.upper != layout::FIRST_UPPER {
         return false;
     }
-    s.lower == layout::LOWER
+    s.lower == layout::FIRST_LOWER
 }
 
 // The highest limits.
@@ -115,20 +115,20 @@ pub fn top_of(s: Shape) -> u32
 pub fn card_width(s: Shape) -> usize
     ensures { λ r. ⌜ r ≡ cardWidth (shapeBy s) ⌝ }
 {
-    layout::CARD
+    layout::CARD_WIDTH
 }
 
 // Where the segments, the card cells and the fault cells begin, and the whole length.
 pub fn segments_at(s: Shape) -> usize
     ensures { λ r. ⌜ r ≡ segmentsAt (shapeBy s) ⌝ }
 {
-    layout::SEGMENTS
+    layout::SEGMENTS_AT
 }
 
 pub fn cards_at(s: Shape) -> usize
     ensures { λ r. ⌜ r ≡ cardsAt (shapeBy s) ⌝ }
 {
-    layout::CARDS
+    layout::CARDS_AT
 }
 
 pub fn faults_at(s: Shape) -> usize
@@ -143,7 +143,7 @@ pub fn length_for(s: Shape) -> usize
     ensures { λ r. ⌜ r ≡ lengthFor (shapeBy s) ⌝ }
 {
     let behind = faults_at(s);
-    behind + layout::FAULT * (s.faults as usize)
+    behind + layout::FAULT_WIDTH * (s.faults as usize)
 }
 
 // Words 14 and 15.
@@ -179,16 +179,16 @@ fn ends_fit(w: &[u32], s: Shape) -> bool
     requires { ⌜ directoryAt ≤ length (now w) ⌝ }
     ensures { λ r. ⌜ r ≡ endsFit (shapeBy s) (now (w .entry)) ⌝ }
 {
-    if cells::wide_word(w, layout::FAULTS_OFFSET) != faults_at(s) {
+    if cells::wide_word(w, layout::FAULTS_OFFSET_AT) != faults_at(s) {
         return false;
     }
-    if cells::wide_word(w, layout::WHOLE_LENGTH) != length_for(s) {
+    if cells::wide_word(w, layout::WHOLE_LENGTH_AT) != length_for(s) {
         return false;
     }
-    if cells::word(w, layout::BOUNDS) != bounds_word(s) {
+    if cells::word(w, layout::BOUNDS_AT) != bounds_word(s) {
         return false;
     }
-    cells::word(w, layout::RULE) == rule_word(s)
+    cells::word(w, layout::RULE_AT) == rule_word(s)
 }
 
 // Words 9 to 15.
@@ -197,13 +197,13 @@ fn offsets_fit(w: &[u32]) -> bool
     ensures { λ r. ⌜ r ≡ offsetsFit (now (w .entry)) ⌝ }
 {
     let s = shape_of(w);
-    if cells::wide_word(w, layout::DIRECTORY_OFFSET) != layout::DIRECTORY {
+    if cells::wide_word(w, layout::DIRECTORY_OFFSET_AT) != layout::DIRECTORY_AT {
         return false;
     }
-    if cells::wide_word(w, layout::SEGMENTS_OFFSET) != segments_at(s) {
+    if cells::wide_word(w, layout::SEGMENTS_OFFSET_AT) != segments_at(s) {
         return false;
     }
-    if cells::wide_word(w, layout::CARDS_OFFSET) != cards_at(s) {
+    if cells::wide_word(w, layout::CARDS_OFFSET_AT) != cards_at(s) {
         return false;
     }
     ends_fit(w, s)
@@ -222,12 +222,12 @@ pub fn header(w: &[u32]) -> Header
         upper: s.upper,
         lower: s.lower,
         top: top_of(s),
-        segments: cells::wide_word(w, layout::SEGMENTS_OFFSET),
-        base: cells::wide_word(w, layout::CARDS_OFFSET),
+        segments: cells::wide_word(w, layout::SEGMENTS_OFFSET_AT),
+        base: cells::wide_word(w, layout::CARDS_OFFSET_AT),
         width: card_width(s),
-        behind: cells::wide_word(w, layout::FAULTS_OFFSET),
-        maxp: cells::word(w, layout::MAXP),
-        p: cells::word(w, layout::P),
+        behind: cells::wide_word(w, layout::FAULTS_OFFSET_AT),
+        maxp: cells::word(w, layout::MAXP_AT),
+        p: cells::word(w, layout::P_AT),
     }
 }
 
@@ -250,8 +250,8 @@ fn entry_for(segments: u32, b: u32, k: u32) -> u32
     requires { ⌜ (k < farthest) × (segments < farthest) ⌝ }
     ensures { λ r. ⌜ r ≡ entryFor segments b k ⌝ }
 {
-    if layout::SEGMENT * k < b {
-        segments + layout::SEGMENT * k
+    if layout::SEGMENT_SIZE * k < b {
+        segments + layout::SEGMENT_SIZE * k
     } else {
         0
     }
@@ -262,11 +262,11 @@ fn directory_fits(w: &[u32], h: Header, b: u32) -> bool
     requires { ⌜ Sized (now w) h ⌝ }
     ensures { λ r. ⌜ r ≡ directoryFits (shapeIn h) (now (w .entry)) b ⌝ }
 {
-    let n = h.top / layout::SEGMENT;
+    let n = h.top / layout::SEGMENT_SIZE;
     let segments = h.segments as u32;
     let mut k: u32 = 0;
     while k < n {
-        if cells::word(w, layout::DIRECTORY + k as usize) != entry_for(segments, b, k) {
+        if cells::word(w, layout::DIRECTORY_AT + k as usize) != entry_for(segments, b, k) {
             return false;
         }
         k += 1;
@@ -296,7 +296,7 @@ fn table_fits(w: &[u32], h: Header, b: u32) -> bool
     requires { ⌜ Sized (now w) h × (b ≤ h .top) ⌝ }
     ensures { λ r. ⌜ r ≡ tableFits (shapeIn h) (now (w .entry)) b ⌝ }
 {
-    if !load_fits(h, cells::word(w, layout::HELD), b) {
+    if !load_fits(h, cells::word(w, layout::HELD_AT), b) {
         return false;
     }
     if !directory_fits(w, h, b) {

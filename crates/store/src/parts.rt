@@ -43,9 +43,9 @@ fn free_word(w: &[u32], faults: bool) -> u32
     ensures { λ r. ⌜ r ≡ getD (now (w .entry)) (cond faults freeFaultsAt freeAt) 0 ⌝ }
 {
     if faults {
-        cells::word(w, layout::FREE_FAULTS)
+        cells::word(w, layout::FREE_FAULTS_AT)
     } else {
-        cells::word(w, layout::FREE)
+        cells::word(w, layout::FREE_AT)
     }
 }
 
@@ -54,9 +54,9 @@ fn held_word(w: &[u32], faults: bool) -> u32
     ensures { λ r. ⌜ r ≡ heldWord (now (w .entry)) faults ⌝ }
 {
     if faults {
-        cells::word(w, layout::FAULTS_HELD)
+        cells::word(w, layout::FAULTS_HELD_AT)
     } else {
-        cells::word(w, layout::HELD)
+        cells::word(w, layout::HELD_AT)
     }
 }
 

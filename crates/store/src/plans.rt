@@ -105,7 +105,7 @@ fn chain_len(w: &[u32], h: Header, first: u32) -> u32
     let mut n: u32 = 0;
     while i != 0 {
         n += 1;
-        i = cells::card_word(w, h, i, layout::NEXT);
+        i = cells::card_word(w, h, i, layout::TO_NEXT);
     }
     n
 }
@@ -124,7 +124,7 @@ fn grow_scan(w: &[u32], h: Header, b: u32) -> u32
     requires { ⌜ (sound (now w) ≡ true) × Read (now w) h ⌝ }
     ensures { λ r. ⌜ r ≡ growScan (decode (now (w .entry))) b ⌝ }
 {
-    let n = cells::word(w, layout::HELD);
+    let n = cells::word(w, layout::HELD_AT);
     if !rules::must_split(h.top, h.upper, n + 1, h.maxp + h.p) {
         return 0;
     }
@@ -144,7 +144,7 @@ fn shrink_scan(w: &[u32], h: Header, b: u32) -> u32
     requires { ⌜ (sound (now w) ≡ true) × Read (now w) h ⌝ }
     ensures { λ r. ⌜ r ≡ shrinkScan (decode (now (w .entry))) b ⌝ }
 {
-    let n = cells::word(w, layout::HELD);
+    let n = cells::word(w, layout::HELD_AT);
     let size = h.maxp + h.p;
     if !rules::must_contract(h.lower, less(n), size) {
         return 0;
@@ -166,7 +166,7 @@ pub fn plan_enter(w: &[u32], serial: [u8; 16], len: usize) -> Plan
     if s.held {
         return refused(h, 6, s.place, 0);
     }
-    if cells::word(w, layout::HELD) == h.cards {
+    if cells::word(w, layout::HELD_AT) == h.cards {
         return refused(h, 8, s.place, 0);
     }
     let scanned = grow_scan(w, h, s.bucket);
@@ -189,10 +189,10 @@ pub fn plan_file(w: &[u32], serial: [u8; 16], len: usize, day: u32, code: u32) -
     if !s.held {
         return refused(h, 7, s.place, 0);
     }
-    if cells::word(w, layout::FAULTS_HELD) == h.faults {
+    if cells::word(w, layout::FAULTS_HELD_AT) == h.faults {
         return refused(h, 9, s.place, 0);
     }
-    let n = cells::card_word(w, h, s.cell, layout::COUNT);
+    let n = cells::card_word(w, h, s.cell, layout::TO_COUNT);
     accepted(h, s, 0, n + 1)
 }
 
@@ -205,7 +205,7 @@ fn plan_pairs(w: &[u32], h: Header, serial: [u8; 16], len: usize, room: usize) -
     if !s.held {
         return refused(h, 7, s.place, 0);
     }
-    let n = cells::card_word(w, h, s.cell, layout::COUNT);
+    let n = cells::card_word(w, h, s.cell, layout::TO_COUNT);
     if room < 2 * (n as usize) {
         return refused(h, 10, s.place, n);
     }

@@ -37,12 +37,12 @@ fn has_key(w: &[u32], h: Header, i: u32, len: u32, key: [u32; layout::SERIAL_WOR
     requires { ⌜ Sized (now w) h × (1 ≤ i) × (i ≤ h .cards) ⌝ }
     ensures { λ r. ⌜ r ≡ hasKey (shapeIn h) (now (w .entry)) i len key ⌝ }
 {
-    if cells::card_word(w, h, i, layout::LENGTH) != len {
+    if cells::card_word(w, h, i, layout::TO_LENGTH) != len {
         return false;
     }
     let mut k: usize = 0;
     while k < layout::SERIAL_WORDS {
-        if cells::card_word(w, h, i, k + layout::SERIAL) != key[k] {
+        if cells::card_word(w, h, i, k + layout::TO_SERIAL) != key[k] {
             return false;
         }
         k += 1;
@@ -69,7 +69,7 @@ pub fn search(w: &[u32], h: Header, first: u32, len: u32, key: [u32; layout::SER
             };
         }
         prev = i;
-        i = cells::card_word(w, h, i, layout::NEXT);
+        i = cells::card_word(w, h, i, layout::TO_NEXT);
     }
     Found {
         held: false,

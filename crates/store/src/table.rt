@@ -22,7 +22,7 @@ fn moves(w: &[u32], h: Header, i: u32) -> bool
 {
     let maxp = h.maxp;
     let p = h.p;
-    let len = cells::card_word(w, h, i, layout::LENGTH) as usize;
+    let len = cells::card_word(w, h, i, layout::TO_LENGTH) as usize;
     let bytes = cells::bytes_at(w, h, i);
     let code = rules::serial_code(bytes, len);
     code % (2 * maxp) == maxp + p
@@ -42,7 +42,7 @@ fn part(w: &mut [u32], h: Header)
     let mut k: u32 = 0;
     let mut g: u32 = 0;
     while x != 0 {
-        let next = cells::card_word(w, h, x, layout::NEXT);
+        let next = cells::card_word(w, h, x, layout::TO_NEXT);
         if moves(w, h, x) {
             writes::link(w, h, n, g, x);
             g = x;
@@ -62,8 +62,8 @@ fn open_bucket(w: &mut [u32], h: Header, n: u32)
     ensures { λ _. ⌜ now (w .exit) ≡ openWords (shapeIn h) (now (w .entry)) n ⌝ }
 {
     let segments = h.segments as u32;
-    if n % layout::SEGMENT == 0 {
-        w[layout::DIRECTORY + (n / layout::SEGMENT) as usize] = segments + n;
+    if n % layout::SEGMENT_SIZE == 0 {
+        w[layout::DIRECTORY_AT + (n / layout::SEGMENT_SIZE) as usize] = segments + n;
     }
 }
 
@@ -71,8 +71,8 @@ fn close_bucket(w: &mut [u32], h: Header, n: u32)
     requires { ⌜ Sized (now w) h × (n < h .top) ⌝ }
     ensures { λ _. ⌜ now (w .exit) ≡ closeWords (shapeIn h) (now (w .entry)) n ⌝ }
 {
-    if n % layout::SEGMENT == 0 {
-        w[layout::DIRECTORY + (n / layout::SEGMENT) as usize] = 0;
+    if n % layout::SEGMENT_SIZE == 0 {
+        w[layout::DIRECTORY_AT + (n / layout::SEGMENT_SIZE) as usize] = 0;
     }
 }
 
@@ -110,8 +110,8 @@ fn set_state(w: &mut [u32], maxp: u32, p: u32)
     requires { ⌜ directoryAt ≤ length (now w) ⌝ }
     ensures { λ _. ⌜ now (w .exit) ≡ set (set (now (w .entry)) maxpAt maxp) pAt p ⌝ }
 {
-    w[layout::MAXP] = maxp;
-    w[layout::P] = p;
+    w[layout::MAXP_AT] = maxp;
+    w[layout::P_AT] = p;
 }
 
 // One bucket more: the chain of bucket p is parted, the new bucket's segment is taken if it is the first there, p grows.
@@ -135,7 +135,7 @@ fn last_from(w: &[u32], h: Header, first: u32) -> u32
     let mut last: u32 = 0;
     while i != 0 {
         last = i;
-        i = cells::card_word(w, h, i, layout::NEXT);
+        i = cells::card_word(w, h, i, layout::TO_NEXT);
     }
     last
 }
@@ -164,7 +164,7 @@ pub fn grow(w: &mut [u32], h: Header)
     requires { ⌜ Fairly (now w) × Read (now w) h ⌝ }
     ensures { λ _. ⌜ now (w .exit) ≡ encode (grown (decode (now (w .entry)))) ⌝ }
 {
-    let n = cells::word(w, layout::HELD);
+    let n = cells::word(w, layout::HELD_AT);
     if rules::must_split(h.top, h.upper, n, h.maxp + h.p) {
         split(w, h);
     }
@@ -175,7 +175,7 @@ pub fn shrink(w: &mut [u32], h: Header)
     requires { ⌜ Fairly (now w) × Read (now w) h ⌝ }
     ensures { λ _. ⌜ now (w .exit) ≡ encode (shrunk (decode (now (w .entry)))) ⌝ }
 {
-    let n = cells::word(w, layout::HELD);
+    let n = cells::word(w, layout::HELD_AT);
     if rules::must_contract(h.lower, n, h.maxp + h.p) {
         join(w, h);
     }

@@ -77,7 +77,7 @@ pub fn walk(
         marks::mark(scratch, base + (i - 1) as usize);
         n += 1;
         last = i;
-        i = cells::cell_word(w, h, faults, i, layout::NEXT);
+        i = cells::cell_word(w, h, faults, i, layout::TO_NEXT);
     }
     Walked {
         ok: true,
@@ -92,7 +92,7 @@ fn first_of(w: &[u32], h: Header, faults: bool, j: u32) -> u32
     ensures { λ r. ⌜ r ≡ firstOf (shapeIn h) (now (w .entry)) faults j ⌝ }
 {
     if faults {
-        cells::card_word(w, h, j + 1, layout::FIRST)
+        cells::card_word(w, h, j + 1, layout::TO_FIRST)
     } else {
         cells::word(w, h.segments + j as usize)
     }
@@ -127,10 +127,10 @@ fn end_fits(w: &[u32], h: Header, faults: bool, j: u32, count: u32, last: u32) -
     if !faults {
         return true;
     }
-    if count != cells::card_word(w, h, j + 1, layout::COUNT) {
+    if count != cells::card_word(w, h, j + 1, layout::TO_COUNT) {
         return false;
     }
-    last == cells::card_word(w, h, j + 1, layout::LAST)
+    last == cells::card_word(w, h, j + 1, layout::TO_LAST)
 }
 
 // A walk of chain j came to its end, and that is where the words say.

@@ -51,7 +51,7 @@ fn set_card(cards: &mut [u32], width: usize, i: u32, k: usize, v: u32)
 }
 
 // The whole of card cell i.
-fn fill_card(cards: &mut [u32], width: usize, i: u32, words: [u32; layout::CARD])
+fn fill_card(cards: &mut [u32], width: usize, i: u32, words: [u32; layout::CARD_WIDTH])
     requires { ⌜ (1 ≤ i) × (width * i ≤ length (now cards)) × (leastWidth ≤ width) ⌝ }
     ensures { λ _. ⌜ now (cards .exit) ≡ sets (now (cards .entry)) (width * (i - 1)) words ⌝ }
 {
@@ -64,15 +64,15 @@ fn set_fault(faults: &mut [u32], i: u32, k: usize, v: u32)
     requires { ⌜ (1 ≤ i) × (faultWidth * i ≤ length (now faults)) × (k < faultWidth) ⌝ }
     ensures { λ _. ⌜ now (faults .exit) ≡ set (now (faults .entry)) (faultWidth * (i - 1) + k) v ⌝ }
 {
-    faults[layout::FAULT * ((i - 1) as usize) + k] = v;
+    faults[layout::FAULT_WIDTH * ((i - 1) as usize) + k] = v;
 }
 
 // The whole of fault cell i.
-fn fill_fault(faults: &mut [u32], i: u32, words: [u32; layout::FAULT])
+fn fill_fault(faults: &mut [u32], i: u32, words: [u32; layout::FAULT_WIDTH])
     requires { ⌜ (1 ≤ i) × (faultWidth * i ≤ length (now faults)) ⌝ }
     ensures { λ _. ⌜ now (faults .exit) ≡ sets (now (faults .entry)) (faultWidth * (i - 1)) words ⌝ }
 {
-    write(faults, layout::FAULT * ((i - 1) as usize), &words);
+    write(faults, layout::FAULT_WIDTH * ((i - 1) as usize), &words);
 }
 
 // A word of the header.
@@ -103,7 +103,7 @@ pub fn put_card(w: &mut [u32], h: Header, i: u32, k: usize, v: u32)
     set_card(&mut w[a..e], width, i, k, v);
 }
 
-pub fn put_card_cell(w: &mut [u32], h: Header, i: u32, words: [u32; layout::CARD])
+pub fn put_card_cell(w: &mut [u32], h: Header, i: u32, words: [u32; layout::CARD_WIDTH])
     requires { ⌜ Sized (now w) h × (1 ≤ i) × (i ≤ h .cards) ⌝ }
     ensures { λ _. ⌜ now (w .exit) ≡ sets (now (w .entry)) (cardAt (shapeIn h) i toNext) words ⌝ }
 {
@@ -121,7 +121,7 @@ pub fn put_fault(w: &mut [u32], h: Header, i: u32, k: usize, v: u32)
     set_fault(&mut w[a..], i, k, v);
 }
 
-pub fn put_fault_cell(w: &mut [u32], h: Header, i: u32, words: [u32; layout::FAULT])
+pub fn put_fault_cell(w: &mut [u32], h: Header, i: u32, words: [u32; layout::FAULT_WIDTH])
     requires { ⌜ Sized (now w) h × (1 ≤ i) × (i ≤ h .faults) ⌝ }
     ensures { λ _. ⌜ now (w .exit) ≡ sets (now (w .entry)) (faultAt (shapeIn h) i toNext) words ⌝ }
 {
@@ -137,7 +137,7 @@ pub fn link(w: &mut [u32], h: Header, b: u32, i: u32, v: u32)
     if i == 0 {
         put_bucket(w, h, b, v);
     } else {
-        put_card(w, h, i, layout::NEXT, v);
+        put_card(w, h, i, layout::TO_NEXT, v);
     }
 }
 
@@ -146,15 +146,15 @@ pub fn place(w: &mut [u32], h: Header, b: u32, last: u32, serial: [u8; 16], len:
     requires { ⌜ MayPlace (now w) h b last × (validSerial serial len ≡ true) ⌝ }
     ensures { λ _. ⌜ now (w .exit) ≡ placeWords (shapeIn h) (now (w .entry)) b last (take len serial) ⌝ }
 {
-    let new = cells::word(w, layout::FREE);
-    let next = cells::card_word(w, h, new, layout::NEXT);
-    let held = cells::word(w, layout::HELD) + 1;
+    let new = cells::word(w, layout::FREE_AT);
+    let next = cells::card_word(w, h, new, layout::TO_NEXT);
+    let held = cells::word(w, layout::HELD_AT) + 1;
     let n = len as u32;
     let key = serial::pack(serial);
-    put_word(w, layout::FREE, next);
+    put_word(w, layout::FREE_AT, next);
     put_card_cell(w, h, new, [0, n, key[0], key[1], key[2], key[3], 0, 0, 0]);
     link(w, h, b, last, new);
-    put_word(w, layout::HELD, held);
+    put_word(w, layout::HELD_AT, held);
 }
 
 // Which fault stands behind fault `last` of the card in cell i: the next word of `last`, or the card's first-fault word where it is 0.
@@ -163,9 +163,9 @@ fn link_fault(w: &mut [u32], h: Header, i: u32, last: u32, v: u32)
     ensures { λ _. ⌜ now (w .exit) ≡ set (now (w .entry)) (cond (eqb last 0) (cardAt (shapeIn h) i toFirst) (faultAt (shapeIn h) last toNext)) v ⌝ }
 {
     if last == 0 {
-        put_card(w, h, i, layout::FIRST, v);
+        put_card(w, h, i, layout::TO_FIRST, v);
     } else {
-        put_fault(w, h, last, layout::NEXT, v);
+        put_fault(w, h, last, layout::TO_NEXT, v);
     }
 }
 
@@ -174,9 +174,9 @@ fn put_counts(w: &mut [u32], h: Header, i: u32, last: u32, count: u32, held: u32
     requires { ⌜ Sized (now w) h × (1 ≤ i) × (i ≤ h .cards) ⌝ }
     ensures { λ _. ⌜ now (w .exit) ≡ set (set (set (now (w .entry)) (cardAt (shapeIn h) i toLast) last) (cardAt (shapeIn h) i toCount) count) faultsHeldAt held ⌝ }
 {
-    put_card(w, h, i, layout::LAST, last);
-    put_card(w, h, i, layout::COUNT, count);
-    put_word(w, layout::FAULTS_HELD, held);
+    put_card(w, h, i, layout::TO_LAST, last);
+    put_card(w, h, i, layout::TO_COUNT, count);
+    put_word(w, layout::FAULTS_HELD_AT, held);
 }
 
 // A fault takes the first free fault cell, behind the last fault of the card in the cell.
@@ -184,12 +184,12 @@ pub fn file_at(w: &mut [u32], h: Header, cell: u32, day: u32, code: u32)
     requires { ⌜ MayFile (now w) h cell ⌝ }
     ensures { λ _. ⌜ now (w .exit) ≡ fileWords (shapeIn h) (now (w .entry)) cell day code ⌝ }
 {
-    let new = cells::word(w, layout::FREE_FAULTS);
-    let next = cells::fault_word(w, h, new, layout::NEXT);
-    let last = cells::card_word(w, h, cell, layout::LAST);
-    let count = cells::card_word(w, h, cell, layout::COUNT) + 1;
-    let held = cells::word(w, layout::FAULTS_HELD) + 1;
-    put_word(w, layout::FREE_FAULTS, next);
+    let new = cells::word(w, layout::FREE_FAULTS_AT);
+    let next = cells::fault_word(w, h, new, layout::TO_NEXT);
+    let last = cells::card_word(w, h, cell, layout::TO_LAST);
+    let count = cells::card_word(w, h, cell, layout::TO_COUNT) + 1;
+    let held = cells::word(w, layout::FAULTS_HELD_AT) + 1;
+    put_word(w, layout::FREE_FAULTS_AT, next);
     put_fault_cell(w, h, new, [0, day, code]);
     link_fault(w, h, cell, last, new);
     put_counts(w, h, cell, new, count, held);
@@ -202,9 +202,9 @@ fn clear_history(w: &mut [u32], h: Header, first: u32)
 {
     let mut i = first;
     while i != 0 {
-        let next = cells::fault_word(w, h, i, layout::NEXT);
-        put_fault(w, h, i, layout::DAY, 0);
-        put_fault(w, h, i, layout::CODE, 0);
+        let next = cells::fault_word(w, h, i, layout::TO_NEXT);
+        put_fault(w, h, i, layout::TO_DAY, 0);
+        put_fault(w, h, i, layout::TO_CODE, 0);
         i = next;
     }
 }
@@ -217,10 +217,10 @@ fn give_back(w: &mut [u32], h: Header, first: u32, last: u32)
     if first == 0 {
         return;
     }
-    let free = cells::word(w, layout::FREE_FAULTS);
+    let free = cells::word(w, layout::FREE_FAULTS_AT);
     clear_history(w, h, first);
-    put_fault(w, h, last, layout::NEXT, free);
-    put_word(w, layout::FREE_FAULTS, first);
+    put_fault(w, h, last, layout::TO_NEXT, free);
+    put_word(w, layout::FREE_FAULTS_AT, first);
 }
 
 // A card cell goes to the front of the free ones.
@@ -229,7 +229,7 @@ fn free_card(w: &mut [u32], h: Header, i: u32, free: u32)
     ensures { λ _. ⌜ now (w .exit) ≡ set (sets (now (w .entry)) (cardAt (shapeIn h) i toNext) (free ∷ replicate (cardWidth (shapeIn h) - 1) 0)) freeAt i ⌝ }
 {
     put_card_cell(w, h, i, [free, 0, 0, 0, 0, 0, 0, 0, 0]);
-    put_word(w, layout::FREE, i);
+    put_word(w, layout::FREE_AT, i);
 }
 
 // The cards and faults held.
@@ -237,8 +237,8 @@ fn put_held(w: &mut [u32], cards: u32, faults: u32)
     requires { ⌜ faultsHeldAt < length (now w) ⌝ }
     ensures { λ _. ⌜ now (w .exit) ≡ set (set (now (w .entry)) heldAt cards) faultsHeldAt faults ⌝ }
 {
-    put_word(w, layout::HELD, cards);
-    put_word(w, layout::FAULTS_HELD, faults);
+    put_word(w, layout::HELD_AT, cards);
+    put_word(w, layout::FAULTS_HELD_AT, faults);
 }
 
 // The card in the cell, behind cell `prev` of bucket b's chain or its first, is taken out: its faults are given back, the chain passes it
@@ -247,13 +247,13 @@ pub fn remove_at(w: &mut [u32], h: Header, b: u32, prev: u32, cell: u32)
     requires { ⌜ MayRemove (now w) h b prev cell ⌝ }
     ensures { λ _. ⌜ now (w .exit) ≡ removeWords (shapeIn h) (now (w .entry)) b prev cell ⌝ }
 {
-    let next = cells::card_word(w, h, cell, layout::NEXT);
-    let first = cells::card_word(w, h, cell, layout::FIRST);
-    let last = cells::card_word(w, h, cell, layout::LAST);
-    let count = cells::card_word(w, h, cell, layout::COUNT);
-    let free = cells::word(w, layout::FREE);
-    let cards = cells::word(w, layout::HELD) - 1;
-    let faults = cells::word(w, layout::FAULTS_HELD) - count;
+    let next = cells::card_word(w, h, cell, layout::TO_NEXT);
+    let first = cells::card_word(w, h, cell, layout::TO_FIRST);
+    let last = cells::card_word(w, h, cell, layout::TO_LAST);
+    let count = cells::card_word(w, h, cell, layout::TO_COUNT);
+    let free = cells::word(w, layout::FREE_AT);
+    let cards = cells::word(w, layout::HELD_AT) - 1;
+    let faults = cells::word(w, layout::FAULTS_HELD_AT) - count;
     give_back(w, h, first, last);
     link(w, h, b, prev, next);
     free_card(w, h, cell, free);

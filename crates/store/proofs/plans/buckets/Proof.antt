@@ -1,4 +1,4 @@
--- `plans::buckets` meets its contract: words 3 and 4 are the state that the store has, and their sum is at most 256.
+-- `plans::buckets` meets its contract: words 3 and 4 are the state that the store has, and their sum is at most the most buckets.
 use native.Mathlib.Omega.{arith}
 use borrow.Author.Needs.{needs}
 use Rattle.store.proofs.StoredLaws.{read-store}
