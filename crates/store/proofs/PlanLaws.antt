@@ -7,7 +7,7 @@ use mathlib.Core.List.{List}
 use Prim.Native.Nat.{ℕ, suc, _+_, _-_, _*_, _≤_, _<_}
 use native.Mathlib.Omega.{arith}
 use lib.Dec.{eqb, ltb}
-use lib.ListN.{length, take, getD, length-map}
+use lib.ListN.{length, take, getD, replicate, length-map, length-replicate}
 use borrow.Author.Tests.{eq-eqb, ne-eqb, lt-ltb, le-ltb}
 use Rattle.rules.specs.Table.{least, splits, contracts}
 use Rattle.rules.proofs.Tests.{by-cases}
@@ -18,7 +18,7 @@ use Rattle.model.specs.Serial.{validSerial, validFault}
 use Rattle.model.specs.Model.{Store, Card, held, faultsHeld, size, bucket, chainFor, found, historyIn, removed, contractScan}
 use Rattle.model.specs.Layout.{heldAt, faultsHeldAt, toFirst, segmentsAt, follow, cardWord, decode, sound}
 use Rattle.model.specs.Meaning.{nextCard, nextFault}
-use Rattle.model.specs.Calls.{Answer, gives, enterStep, fileStep, showStep, withdrawStep}
+use Rattle.model.specs.Calls.{Answer, Step, gives, enterStep, fileStep, showStep, withdrawStep}
 use Rattle.model.proofs.Readings.{held-at, faults-held-at}
 use Rattle.model.proofs.Sound.{sound-is, sound-good}
 use Rattle.model.proofs.Fair.{Good}
@@ -27,7 +27,8 @@ use Rattle.model.proofs.Numbers.{show-numbers}
 use Rattle.store.specs.declared.cells.Header.{Header}
 use Rattle.store.specs.Cells.{shapeIn, Read}
 use Rattle.store.specs.Search.{Ends, Finds}
-use Rattle.store.specs.Plans.{growScan, shrinkScan, refusal, ahead, Plans, PlansFor}
+use Rattle.store.specs.Leaves.{Gives}
+use Rattle.store.specs.Plans.{growScan, shrinkScan, refusal, ahead, answered, Plans, PlansFor}
 use Rattle.store.specs.declared.plans.Plan.{Plan}
 use Rattle.store.specs.declared.search.Spot.{Spot}
 use Rattle.store.proofs.AlongLaws.{follow-length}
@@ -127,33 +128,44 @@ module _ {w : List ℕ} {h : Header} (q : Read w h) (bytes : List ℕ) (n : ℕ)
         places = λ z. record { valid = v; bucket-is = f .bucket-is; cell-is = f .cell-is; prev-is = f .prev-is };
       })
 
+-- a call that is refused before its serial is looked for
+module _ {w : List ℕ} (bytes : List ℕ) (n : ℕ) {a : Answer} {r : Plan} where
+  plan-turned : (k : ℕ) → Gives (gives (suc k) 0 0 0) (answered r) × Read w (r .header) → a ≡ gives (suc k) 0 0 0 → Plans a w bytes n r
+  plan-turned k t g = rw g (record { answer = t .0; header = t .1; places = λ z. absurd (omega (arith, t .0 .number-is)) })
+
+-- the header of a plan for any room of so many words
+pub plans-header : {step : List ℕ → Step} {room : ℕ} {w bytes : List ℕ} {n : ℕ} {r : Plan} → PlansFor step room w bytes n r → Read w (r .header)
+plans-header {room = room} p = p .with-room (replicate room 0) (length-replicate {A = ℕ} room 0) .header
+
 -- the ways out of each plan
 
-module _ (w : List ℕ) (e : sound w ≡ true) {h : Header} (q : Read w h) (bytes : List ℕ) (n : ℕ) where
-  -- 4
-  module _ (v : validSerial bytes n ≡ false) where
-    pub enter-invalid : Plans (enterStep (decode w) bytes n .answer) w bytes n (refusal h 4 0 0)
+-- 4 and 5
+module _ (w : List ℕ) (bytes : List ℕ) (n : ℕ) {r : Plan} where
+  module _ (t : Gives (gives 4 0 0 0) (answered r) × Read w (r .header)) (v : validSerial bytes n ≡ false) where
+    pub enter-invalid : Plans (enterStep (decode w) bytes n .answer) w bytes n r
     unfolding enterStep
-    enter-invalid = plan-refused q bytes n 3 0 0 (rw v)
+    enter-invalid = plan-turned bytes n 3 t (rw v)
 
-    pub file-invalid : (day code : ℕ) → Plans (fileStep (decode w) bytes n day code .answer) w bytes n (refusal h 4 0 0)
+    pub file-invalid : (day code : ℕ) → Plans (fileStep (decode w) bytes n day code .answer) w bytes n r
     unfolding fileStep
-    file-invalid day code = plan-refused q bytes n 3 0 0 (rw v)
+    file-invalid day code = plan-turned bytes n 3 t (rw v)
 
-    pub pairs-invalid : (room : ℕ) → PlansFor (showStep (decode w) bytes n) room w bytes n (refusal h 4 0 0)
+    pub pairs-invalid : (room : ℕ) → PlansFor (showStep (decode w) bytes n) room w bytes n r
     unfolding showStep
-    pairs-invalid room = record { with-room = λ given l. plan-refused q bytes n 3 0 0 (rw v) }
+    pairs-invalid room = record { with-room = λ given l. plan-turned bytes n 3 t (rw v) }
 
-    pub withdraw-invalid : (room : ℕ) → PlansFor (withdrawStep (decode w) bytes n) room w bytes n (refusal h 4 0 0)
+    pub withdraw-invalid : (room : ℕ) → PlansFor (withdrawStep (decode w) bytes n) room w bytes n r
     unfolding withdrawStep
-    withdraw-invalid room = record { with-room = λ given l. plan-refused q bytes n 3 0 0 (rw v) }
+    withdraw-invalid room = record { with-room = λ given l. plan-turned bytes n 3 t (rw v) }
 
+  pub file-bad : Gives (gives 5 0 0 0) (answered r) × Read w (r .header) → validSerial bytes n ≡ true → (day code : ℕ) → validFault day code ≡ false
+      → Plans (fileStep (decode w) bytes n day code .answer) w bytes n r
+  unfolding fileStep
+  file-bad t v day code u = plan-turned bytes n 4 t (rw (v, u))
+
+-- behind the search
+module _ (w : List ℕ) (e : sound w ≡ true) {h : Header} (q : Read w h) (bytes : List ℕ) (n : ℕ) where
   module _ (v : validSerial bytes n ≡ true) where
-    -- 5
-    pub file-bad : (day code : ℕ) → validFault day code ≡ false → Plans (fileStep (decode w) bytes n day code .answer) w bytes n (refusal h 5 0 0)
-    unfolding fileStep
-    file-bad day code u = plan-refused q bytes n 4 0 0 (rw (v, u))
-
     module _ {o : Spot} (f : Finds (decode w) (take n bytes) o) where
       -- no card has the serial
       module _ (z : o .held ≡ false) where
@@ -235,13 +247,13 @@ module _ (w : List ℕ) (e : sound w ≡ true) (bytes : List ℕ) (n room : ℕ)
   withdraw-refused z =
       record { with-room = λ given l. let q = p .with-room given l in rw (same-refused (decode w) bytes n given (λ k. z (q .answer .number-is ∙ k))) q }
 
-  pub withdraw-ahead : {h : Header} → Read w h → r .number ≡ 0 → (scan : ℕ) → scan ≡ shrinkScan (decode w) (r .bucket)
+  pub withdraw-ahead : r .number ≡ 0 → (scan : ℕ) → scan ≡ shrinkScan (decode w) (r .bucket)
       → PlansFor (withdrawStep (decode w) bytes n) room w bytes n
-      (record { number = 0; comparisons = r .comparisons; scanned = scan; faults = r .faults; bucket = r .bucket; cell = r .cell; prev = r .prev; header = h })
-  withdraw-ahead {h} kept z scan k = record { with-room = λ given l. go given (p .with-room given l) }
+      (record { number = 0; comparisons = r .comparisons; scanned = scan; faults = r .faults; bucket = r .bucket; cell = r .cell; prev = r .prev; header = r .header })
+  withdraw-ahead z scan k = record { with-room = λ given l. go given (p .with-room given l) }
     where
       go : (given : List ℕ) → Plans (showStep (decode w) bytes n given .answer) w bytes n r → Plans (withdrawStep (decode w) bytes n given .answer) w bytes n
-          (record { number = 0; comparisons = r .comparisons; scanned = scan; faults = r .faults; bucket = r .bucket; cell = r .cell; prev = r .prev; header = h })
+          (record { number = 0; comparisons = r .comparisons; scanned = scan; faults = r .faults; bucket = r .bucket; cell = r .cell; prev = r .prev; header = r .header })
       go given q =
           let d = same-done (decode w) bytes n given (sound-good w e .0) (sym (q .answer .number-is) ∙ z) in
           let o = q .places z in
@@ -252,6 +264,6 @@ module _ (w : List ℕ) (e : sound w ≡ true) (bytes : List ℕ) (n room : ℕ)
               scanned-is = k ∙ ap (shrinkScan (decode w)) (o .bucket-is) ∙ sym (shrink-scan (decode w) (sound-is w e .0 .fair) (take n bytes) (d .1));
               faults-are = q .answer .faults-are;
             };
-            header = kept;
+            header = q .header;
             places = λ _. record { valid = o .valid; bucket-is = o .bucket-is; cell-is = o .cell-is; prev-is = o .prev-is };
           })

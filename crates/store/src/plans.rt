@@ -50,7 +50,7 @@ fn refused(h: Header, number: u32, comparisons: u32, faults: u32) -> Plan
     }
 }
 
-// A line that asks nothing of any serial, refused on a store known to be sound.
+// A call that is refused before its serial is looked for, on a store known to be sound.
 pub fn turned_down(w: &[u32], number: u32) -> Plan
     requires { ⌜ sound (now w) ≡ true ⌝ }
     ensures { λ r. ⌜ Gives (gives number 0 0 0) (answered r) × Read (now (w .entry)) (r .header) ⌝ }
@@ -158,11 +158,11 @@ pub fn plan_enter(w: &[u32], serial: [u8; 16], len: usize) -> Plan
     requires { ⌜ sound (now w) ≡ true ⌝ }
     ensures { λ r. ⌜ Plans (enterStep (decode (now (w .entry))) serial len .answer) (now (w .entry)) serial len r ⌝ }
 {
-    let h = search::header_of(w);
     if !serial::valid_serial(serial, len) {
-        return refused(h, 4, 0, 0);
+        return turned_down(w, 4);
     }
     let s = search::find(w, serial, len);
+    let h = search::header_of(w);
     if s.held {
         return refused(h, 6, s.place, 0);
     }
@@ -178,14 +178,14 @@ pub fn plan_file(w: &[u32], serial: [u8; 16], len: usize, day: u32, code: u32) -
     requires { ⌜ sound (now w) ≡ true ⌝ }
     ensures { λ r. ⌜ Plans (fileStep (decode (now (w .entry))) serial len day code .answer) (now (w .entry)) serial len r ⌝ }
 {
-    let h = search::header_of(w);
     if !serial::valid_serial(serial, len) {
-        return refused(h, 4, 0, 0);
+        return turned_down(w, 4);
     }
     if !serial::valid_fault(day, code) {
-        return refused(h, 5, 0, 0);
+        return turned_down(w, 5);
     }
     let s = search::find(w, serial, len);
+    let h = search::header_of(w);
     if !s.held {
         return refused(h, 7, s.place, 0);
     }
@@ -197,11 +197,12 @@ pub fn plan_file(w: &[u32], serial: [u8; 16], len: usize, day: u32, code: u32) -
 }
 
 // Show and Withdraw of a valid serial: 7 where no card has it, 10 where its pairs do not fit.
-fn plan_pairs(w: &[u32], h: Header, serial: [u8; 16], len: usize, room: usize) -> Plan
-    requires { ⌜ (sound (now w) ≡ true) × Read (now w) h × (validSerial serial len ≡ true) ⌝ }
+fn plan_pairs(w: &[u32], serial: [u8; 16], len: usize, room: usize) -> Plan
+    requires { ⌜ (sound (now w) ≡ true) × (validSerial serial len ≡ true) ⌝ }
     ensures { λ r. ⌜ PlansFor (showStep (decode (now (w .entry))) serial len) room (now (w .entry)) serial len r ⌝ }
 {
     let s = search::find(w, serial, len);
+    let h = search::header_of(w);
     if !s.held {
         return refused(h, 7, s.place, 0);
     }
@@ -217,11 +218,10 @@ pub fn plan_show(w: &[u32], serial: [u8; 16], len: usize, room: usize) -> Plan
     requires { ⌜ sound (now w) ≡ true ⌝ }
     ensures { λ r. ⌜ PlansFor (showStep (decode (now (w .entry))) serial len) room (now (w .entry)) serial len r ⌝ }
 {
-    let h = search::header_of(w);
     if !serial::valid_serial(serial, len) {
-        return refused(h, 4, 0, 0);
+        return turned_down(w, 4);
     }
-    plan_pairs(w, h, serial, len, room)
+    plan_pairs(w, serial, len, room)
 }
 
 // Withdraw: as Show, and what it will scan.
@@ -229,14 +229,14 @@ pub fn plan_withdraw(w: &[u32], serial: [u8; 16], len: usize, room: usize) -> Pl
     requires { ⌜ sound (now w) ≡ true ⌝ }
     ensures { λ r. ⌜ PlansFor (withdrawStep (decode (now (w .entry))) serial len) room (now (w .entry)) serial len r ⌝ }
 {
-    let h = search::header_of(w);
     if !serial::valid_serial(serial, len) {
-        return refused(h, 4, 0, 0);
+        return turned_down(w, 4);
     }
-    let t = plan_pairs(w, h, serial, len, room);
+    let t = plan_pairs(w, serial, len, room);
     if t.number != 0 {
         return t;
     }
+    let h = t.header;
     let scanned = shrink_scan(w, h, t.bucket);
     Plan {
         number: 0,

@@ -11,16 +11,12 @@ use Rattle.store.proofs.plans.plan_enter.Statement.{statement}
 use Rattle.store.proofs.plans.plan_enter.Tie as tie
 
 abbrev start : tie.After-valid-serial → tie.Start
-start c = c .before .before .before
-
--- the header as it was read
-abbrev read : tie.After-valid-serial → tie.After-header-of
-read c = c .before
+start c = c .before .before
 
 returns : tie.Need-returns
 returns c =
     let i = c .before .before in
-    rw (c .refused .ensures) (enter-invalid _ (start i .pre) (read i .header-of .ensures) _ _ (sym (i .valid-serial .ensures) ∙ not-true (i .valid-serial .result) (c .before .if1 .taken)))
+    enter-invalid _ _ _ (c .turned-down .ensures) (sym (i .valid-serial .ensures) ∙ not-true (i .valid-serial .result) (c .before .if1 .taken))
 
 -- the serial is valid past the first test
 valid : (c : tie.Else1) → validSerial (start (c .before) .args .serial) (start (c .before) .args .len) ≡ true
@@ -31,26 +27,27 @@ find-requires c κs = (start (c .before) .pre, valid c)
 
 returns-2 : tie.Need-returns-2
 returns-2 c =
-    let f = c .before .before in
+    let r = c .before .before in
+    let f = r .before in
     let i = f .before in
-    rw (c .refused2 .ensures) (enter-held _ (start (i .before) .pre) (read (i .before) .header-of .ensures) _ _ (valid i) (f .find .ensures) (c .before .if2 .taken))
+    rw (c .refused .ensures) (enter-held _ (start (i .before) .pre) (r .header-of .ensures) _ _ (valid i) (f .find .ensures) (c .before .if2 .taken))
 
 returns-3 : tie.Need-returns-3
 returns-3 c =
     let g = c .before .before .before in
-    let f = g .before .before in
+    let f = g .before .before .before in
     let i = f .before in
-    let r = read (i .before) .header-of .ensures in
-    rw (c .refused3 .ensures)
+    let r = g .before .before .header-of .ensures in
+    rw (c .refused2 .ensures)
     (enter-full _ (start (i .before) .pre) r _ _ (valid i) (f .find .ensures) (g .before .if2 .left)
     (sym (held-word (start (i .before) .pre) r) ∙ sym (g .word .ensures) ∙ c .before .if3 .taken ∙ sym (ap (λ (sh : Shape). sh .limit) (read-store r .0))))
 
 returns-4 : tie.Need-returns-4
 returns-4 c =
     let g = c .before .before .before .before in
-    let f = g .before .before in
+    let f = g .before .before .before in
     let i = f .before in
-    let r = read (i .before) .header-of .ensures in
+    let r = g .before .before .header-of .ensures in
     rw (c .accepted .ensures, c .before .grow-scan .ensures)
     (enter-ahead _ (start (i .before) .pre) r _ _ (valid i) (f .find .ensures) (g .before .if2 .left)
     (λ k. c .before .before .if3 .left (g .word .ensures ∙ held-word (start (i .before) .pre) r ∙ k ∙ ap (λ (sh : Shape). sh .limit) (read-store r .0))))
@@ -61,9 +58,9 @@ plan-enter-spec =
     (tie.spec
     (λ c κs. search needs)
     (λ c κs. search needs)
-    (λ c κs. search needs)
     returns
     find-requires
+    (λ c κs. search needs)
     (λ c κs. search needs)
     returns-2
     (λ c κs. search needs)

@@ -18,16 +18,12 @@ use Rattle.store.proofs.plans.plan_file.Statement.{statement}
 use Rattle.store.proofs.plans.plan_file.Tie as tie
 
 abbrev start : tie.After-valid-serial → tie.Start
-start c = c .before .before .before
-
--- the header as it was read
-abbrev read : tie.After-valid-serial → tie.After-header-of
-read c = c .before
+start c = c .before .before
 
 returns : tie.Need-returns
 returns c =
     let i = c .before .before in
-    rw (c .refused .ensures) (file-invalid _ (start i .pre) (read i .header-of .ensures) _ _ (sym (i .valid-serial .ensures) ∙ not-true (i .valid-serial .result) (c .before .if1 .taken)) _ _)
+    file-invalid _ _ _ (c .turned-down .ensures) (sym (i .valid-serial .ensures) ∙ not-true (i .valid-serial .result) (c .before .if1 .taken)) _ _
 
 -- the serial is valid past the first test, day and code past the second
 valid : (c : tie.Else1) → validSerial (start (c .before) .args .serial) (start (c .before) .args .len) ≡ true
@@ -36,14 +32,10 @@ valid c = sym (c .before .valid-serial .ensures) ∙ not-false (c .before .valid
 returns-2 : tie.Need-returns-2
 returns-2 c =
     let j = c .before .before in
-    rw (c .refused2 .ensures)
-    (file-bad _ (start (j .before .before) .pre) (read (j .before .before) .header-of .ensures) _ _ (valid (j .before)) _ _ (sym (j .valid-fault .ensures) ∙ not-true (j .valid-fault .result) (c .before .if2 .taken)))
+    file-bad _ _ _ (c .turned-down2 .ensures) (valid (j .before)) _ _ (sym (j .valid-fault .ensures) ∙ not-true (j .valid-fault .result) (c .before .if2 .taken))
 
 abbrev begun : tie.Else2 → tie.Start
 begun c = start (c .before .before .before)
-
-abbrev seen : tie.Else2 → tie.After-header-of
-seen c = read (c .before .before .before)
 
 valid-pair : (c : tie.Else2) → validFault (begun c .args .day) (begun c .args .code) ≡ true
 valid-pair c = sym (c .before .valid-fault .ensures) ∙ not-false (c .before .valid-fault .result) (c .if2 .left)
@@ -53,36 +45,40 @@ find-requires c κs = (begun c .pre, valid (c .before .before))
 
 returns-3 : tie.Need-returns-3
 returns-3 c =
-    let f = c .before .before .before in
+    let r = c .before .before .before in
+    let f = r .before in
     let j = f .before in
-    rw (c .refused3 .ensures)
-    (file-missing _ (begun j .pre) (seen j .header-of .ensures) _ _ (valid (j .before .before)) (f .find .ensures) (not-true (f .find .result .held) (c .before .if3 .taken)) _ _ (valid-pair j))
+    rw (c .refused .ensures)
+    (file-missing _ (begun j .pre) (r .header-of .ensures) _ _ (valid (j .before .before)) (f .find .ensures) (not-true (f .find .result .held) (c .before .if3 .taken)) _ _ (valid-pair j))
 
--- past the third test the card is held
+-- past the third test the header is read, and the card is held
+abbrev read : tie.Else3 → tie.After-header-of
+read c = c .before .before
+
 abbrev looked : tie.Else3 → tie.After-find
-looked c = c .before .before
+looked c = read c .before
 
 held : (c : tie.Else3) → looked c .find .result .held ≡ true
 held c = not-false (looked c .find .result .held) (c .if3 .left)
 
 cell : (c : tie.Else3) → HeldCell (begun (looked c .before) .args .w .now) (take (begun (looked c .before) .args .len) (begun (looked c .before) .args .serial))
-    (seen (looked c .before) .header-of .result) (looked c .find .result .cell)
-cell c = held-cell (seen (looked c .before) .header-of .ensures) (is-held (sound-is _ (begun (looked c .before) .pre) .0) _ (looked c .find .ensures) (held c))
+    (read c .header-of .result) (looked c .find .result .cell)
+cell c = held-cell (read c .header-of .ensures) (is-held (sound-is _ (begun (looked c .before) .pre) .0) _ (looked c .find .ensures) (held c))
 
 returns-4 : tie.Need-returns-4
 returns-4 c =
     let g = c .before .before .before in
     let f = looked (g .before) in
     let j = f .before in
-    let r = seen j .header-of .ensures in
-    rw (c .refused4 .ensures)
+    let r = read (g .before) .header-of .ensures in
+    rw (c .refused2 .ensures)
     (file-full _ (begun j .pre) r _ _ (valid (j .before .before)) (f .find .ensures) (held (g .before)) _ _ (valid-pair j)
     (sym (filed-word (begun j .pre) r) ∙ sym (g .word .ensures) ∙ c .before .if4 .taken ∙ sym (ap (λ (sh : Shape). sh .faultLimit) (read-store r .0))))
 
 card-word-requires : tie.Need-card-word-requires
 card-word-requires c κs =
     let h = c .before .before .before in
-    (seen (looked h .before) .header-of .ensures .sized, cell h .from-one, cell h .in-limit, omega (arith, seen (looked h .before) .header-of .ensures .sized .room))
+    (read h .header-of .ensures .sized, cell h .from-one, cell h .in-limit, omega (arith, read h .header-of .ensures .sized .room))
 
 -- the card's count is that of its history
 abbrev last-test : tie.After-card-word → tie.Else3
@@ -95,14 +91,14 @@ count c = c .card-word .ensures ∙ cell (last-test c) .count-word
 add-accepted : tie.Need-add-accepted
 add-accepted c =
     let f = looked (last-test c) in
-    omega (arith, count c, held-history (begun (f .before) .pre) (seen (f .before) .header-of .ensures) (cell (last-test c)))
+    omega (arith, count c, held-history (begun (f .before) .pre) (read (last-test c) .header-of .ensures) (cell (last-test c)))
 
 returns-5 : tie.Need-returns-5
 returns-5 c =
     let g = c .before .before .before .before in
     let f = looked (g .before) in
     let j = f .before in
-    let r = seen j .header-of .ensures in
+    let r = read (g .before) .header-of .ensures in
     rw (c .accepted .ensures)
     (file-ahead _ (begun j .pre) r _ _ (valid (j .before .before)) (f .find .ensures) (held (g .before)) _ _ (valid-pair j)
     (λ k. c .before .before .if4 .left (g .word .ensures ∙ filed-word (begun j .pre) r ∙ k ∙ ap (λ (sh : Shape). sh .faultLimit) (read-store r .0))) _ (count (c .before)))
@@ -113,12 +109,12 @@ plan-file-spec =
     (tie.spec
     (λ c κs. search needs)
     (λ c κs. search needs)
-    (λ c κs. search needs)
     returns
     (λ c κs. search needs)
     (λ c κs. search needs)
     returns-2
     find-requires
+    (λ c κs. search needs)
     (λ c κs. search needs)
     returns-3
     (λ c κs. search needs)

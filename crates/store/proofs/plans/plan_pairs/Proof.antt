@@ -18,23 +18,27 @@ start c = c .before .before
 
 returns : tie.Need-returns
 returns c =
-    let f = c .before .before .before in
+    let r = c .before .before .before in
+    let f = r .before in
     let p = start f .pre in
-    rw (c .refused .ensures) (pairs-missing _ (p .0) (p .1) _ _ (p .2) (f .find .ensures) (not-true (f .find .result .held) (c .before .if1 .taken)) _)
+    rw (c .refused .ensures) (pairs-missing _ (p .0) (r .header-of .ensures) _ _ (p .1) (f .find .ensures) (not-true (f .find .result .held) (c .before .if1 .taken)) _)
 
--- past the first test the card is held
+-- past the first test the header is read, and the card is held
+abbrev read : tie.Else1 → tie.After-header-of
+read c = c .before .before
+
 abbrev looked : tie.Else1 → tie.After-find
-looked c = c .before .before
+looked c = read c .before
 
 held : (c : tie.Else1) → looked c .find .result .held ≡ true
 held c = not-false (looked c .find .result .held) (c .if1 .left)
 
 cell : (c : tie.Else1) → HeldCell (start (looked c) .args .w .now) (take (start (looked c) .args .len) (start (looked c) .args .serial))
-    (start (looked c) .args .h) (looked c .find .result .cell)
-cell c = held-cell (start (looked c) .pre .1) (is-held (sound-is _ (start (looked c) .pre .0) .0) _ (looked c .find .ensures) (held c))
+    (read c .header-of .result) (looked c .find .result .cell)
+cell c = held-cell (read c .header-of .ensures) (is-held (sound-is _ (start (looked c) .pre .0) .0) _ (looked c .find .ensures) (held c))
 
 card-word-requires : tie.Need-card-word-requires
-card-word-requires c κs = (start (looked c) .pre .1 .sized, cell c .from-one, cell c .in-limit, omega (arith, start (looked c) .pre .1 .sized .room))
+card-word-requires c κs = (read c .header-of .ensures .sized, cell c .from-one, cell c .in-limit, omega (arith, read c .header-of .ensures .sized .room))
 
 -- the card's count is that of its history
 count : (c : tie.After-card-word) → c .card-word .result
@@ -45,18 +49,19 @@ returns-2 : tie.Need-returns-2
 returns-2 c =
     let g = c .before .before in
     let p = start (looked (g .before)) .pre in
-    rw (c .refused2 .ensures) (pairs-small _ (p .0) (p .1) _ _ (p .2) (looked (g .before) .find .ensures) (held (g .before)) _ _ (count g) (c .before .if2 .taken))
+    rw (c .refused2 .ensures) (pairs-small _ (p .0) (read (g .before) .header-of .ensures) _ _ (p .1) (looked (g .before) .find .ensures) (held (g .before)) _ _ (count g) (c .before .if2 .taken))
 
 returns-3 : tie.Need-returns-3
 returns-3 c =
     let g = c .before .before in
     let p = start (looked (g .before)) .pre in
-    rw (c .accepted .ensures) (pairs-ahead _ (p .0) (p .1) _ _ (p .2) (looked (g .before) .find .ensures) (held (g .before)) _ _ (count g) (c .before .if2 .left))
+    rw (c .accepted .ensures) (pairs-ahead _ (p .0) (read (g .before) .header-of .ensures) _ _ (p .1) (looked (g .before) .find .ensures) (held (g .before)) _ _ (count g) (c .before .if2 .left))
 
 pub plan-pairs-spec : {M : Type 1} → statement M
 plan-pairs-spec =
     tie.close
     (tie.spec
+    (λ c κs. search needs)
     (λ c κs. search needs)
     (λ c κs. search needs)
     returns

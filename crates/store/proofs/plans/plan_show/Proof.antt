@@ -9,18 +9,17 @@ use Rattle.store.proofs.plans.plan_show.Tie as tie
 returns : tie.Need-returns
 returns c =
     let i = c .before .before in
-    rw (c .refused .ensures) (pairs-invalid _ (i .before .before .before .pre) (i .before .header-of .ensures) _ _ (sym (i .valid-serial .ensures) ∙ not-true (i .valid-serial .result) (c .before .if1 .taken)) _)
+    pairs-invalid _ _ _ (c .turned-down .ensures) (sym (i .valid-serial .ensures) ∙ not-true (i .valid-serial .result) (c .before .if1 .taken)) _
 
 plan-pairs-requires : tie.Need-plan-pairs-requires
 plan-pairs-requires c κs =
     let i = c .before in
-    (i .before .before .before .pre, i .before .header-of .ensures, sym (i .valid-serial .ensures) ∙ not-false (i .valid-serial .result) (c .if1 .left))
+    (i .before .before .pre, sym (i .valid-serial .ensures) ∙ not-false (i .valid-serial .result) (c .if1 .left))
 
 pub plan-show-spec : {M : Type 1} → statement M
 plan-show-spec =
     tie.close
     (tie.spec
-    (λ c κs. search needs)
     (λ c κs. search needs)
     (λ c κs. search needs)
     returns
