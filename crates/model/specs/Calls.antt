@@ -7,6 +7,7 @@ use lib.ListN.{length, take, drop, replicate}
 use Rattle.model.specs.Shape.{Shape, need}
 use Rattle.model.specs.Serial.{validSerial, validFault}
 use Rattle.model.specs.Model.{Fault, Store, held, faultsHeld, chainFor, found, comparisons, placed, removed, splitScan, contractScan, fresh, entered, filed, historyIn, withdrawn}
+use Rattle.model.specs.Numbers.{badLimits, badLength, notSound, badSerial, badFault, alreadyHeld, notHeld, cardsFull, faultsFull, shortRoom, shortScratch}
 use Rattle.model.specs.Layout.{firstUpper, firstLower, limitsOk, lengthFor, encode, decode, sound, shapeOf}
 
 pub record Answer : Type 0 where
@@ -57,9 +58,9 @@ enterStep s bytes n =
     let serial = take n bytes in
     let chain = chainFor s serial in
     let k = comparisons serial chain in
-    cond (not (validSerial bytes n)) (stays (refused 4) s [])
-    (cond (eqb (length (found serial chain)) 1) (stays (gives 6 k 0 0) s [])
-    (cond (eqb (held s) (s .shape .limit)) (stays (gives 8 k 0 0) s [])
+    cond (not (validSerial bytes n)) (stays (refused badSerial) s [])
+    (cond (eqb (length (found serial chain)) 1) (stays (gives alreadyHeld k 0 0) s [])
+    (cond (eqb (held s) (s .shape .limit)) (stays (gives cardsFull k 0 0) s [])
     (stays (gives 0 k (splitScan (placed s serial)) 0) (entered s serial) [])))
 
 unfoldable pub fileStep : Store → List ℕ → ℕ → ℕ → ℕ → Step
@@ -67,10 +68,10 @@ fileStep s bytes n day code =
     let serial = take n bytes in
     let chain = chainFor s serial in
     let k = comparisons serial chain in
-    cond (not (validSerial bytes n)) (stays (refused 4) s [])
-    (cond (not (validFault day code)) (stays (refused 5) s [])
-    (cond (eqb (length (found serial chain)) 0) (stays (gives 7 k 0 0) s [])
-    (cond (eqb (faultsHeld s) (s .shape .faultLimit)) (stays (gives 9 k 0 0) s [])
+    cond (not (validSerial bytes n)) (stays (refused badSerial) s [])
+    (cond (not (validFault day code)) (stays (refused badFault) s [])
+    (cond (eqb (length (found serial chain)) 0) (stays (gives notHeld k 0 0) s [])
+    (cond (eqb (faultsHeld s) (s .shape .faultLimit)) (stays (gives faultsFull k 0 0) s [])
     (stays (gives 0 k 0 (length (historyIn s serial) + 1)) (filed s serial day code) []))))
 
 unfoldable pub showStep : Store → List ℕ → ℕ → List ℕ → Step
@@ -79,9 +80,9 @@ showStep s bytes n room =
     let chain = chainFor s serial in
     let k = comparisons serial chain in
     let h = historyIn s serial in
-    cond (not (validSerial bytes n)) (stays (refused 4) s room)
-    (cond (eqb (length (found serial chain)) 0) (stays (gives 7 k 0 0) s room)
-    (cond (ltb (length room) (2 * length h)) (stays (gives 10 k 0 (length h)) s room)
+    cond (not (validSerial bytes n)) (stays (refused badSerial) s room)
+    (cond (eqb (length (found serial chain)) 0) (stays (gives notHeld k 0 0) s room)
+    (cond (ltb (length room) (2 * length h)) (stays (gives shortRoom k 0 (length h)) s room)
     (stays (gives 0 k 0 (length h)) s (written h room))))
 
 unfoldable pub withdrawStep : Store → List ℕ → ℕ → List ℕ → Step
@@ -90,14 +91,14 @@ withdrawStep s bytes n room =
     let chain = chainFor s serial in
     let k = comparisons serial chain in
     let h = historyIn s serial in
-    cond (not (validSerial bytes n)) (stays (refused 4) s room)
-    (cond (eqb (length (found serial chain)) 0) (stays (gives 7 k 0 0) s room)
-    (cond (ltb (length room) (2 * length h)) (stays (gives 10 k 0 (length h)) s room)
+    cond (not (validSerial bytes n)) (stays (refused badSerial) s room)
+    (cond (eqb (length (found serial chain)) 0) (stays (gives notHeld k 0 0) s room)
+    (cond (ltb (length room) (2 * length h)) (stays (gives shortRoom k 0 (length h)) s room)
     (stays (gives 0 k (contractScan (removed s serial)) (length h)) (withdrawn s serial) (written h room))))
 
 -- what every call asks before its step: 11 where the scratch is shorter than the store's shape needs, then 3 where the words are not sound, else 0
 unfoldable pub admission : List ℕ → List ℕ → ℕ
-admission w scratch = cond (ltb (length scratch) (need (shapeOf w))) 11 (cond (sound w) 0 3)
+admission w scratch = cond (ltb (length scratch) (need (shapeOf w))) shortScratch (cond (sound w) 0 notSound)
 
 -- and what it leaves in the scratch: under 11 all as it was, else its first bytes zero
 unfoldable pub swept : List ℕ → List ℕ → List ℕ
@@ -126,6 +127,6 @@ pub record Opened : Type 0 where
 
 unfoldable pub openCall : List ℕ → Terms → Opened
 openCall w t =
-    cond (not (limitsOk (shapeFor t))) (record { number = 1; words = w })
-    (cond (not (eqb (length w) (lengthFor (shapeFor t)))) (record { number = 2; words = w })
+    cond (not (limitsOk (shapeFor t))) (record { number = badLimits; words = w })
+    (cond (not (eqb (length w) (lengthFor (shapeFor t)))) (record { number = badLength; words = w })
     (record { number = 0; words = encode (fresh (shapeFor t)) }))

@@ -9,6 +9,7 @@ use Rattle.model.specs.Serial.{mostBytes}
 use Rattle.model.specs.Model.{Store, size}
 use Rattle.model.specs.Shape.{faultsEver, need}
 use Rattle.model.specs.Layout.{shapeOf, encode, decode, sound}
+use Rattle.model.specs.Numbers.{notSound, shortRoom, shortScratch, badLine, longText}
 use Rattle.model.specs.Calls.{Answer, Step, refused, cleaned, stays, enterStep, fileStep, showStep, withdrawStep}
 
 -- the fields between separators; there is always one
@@ -72,7 +73,7 @@ unfoldable pub enough : List ℕ
 enough = replicate (2 * faultsEver) 0
 
 unfoldable pub stepOf : Store → Line → Step
-stepOf s bad = stays (refused 12) s []
+stepOf s bad = stays (refused badLine) s []
 stepOf s (enter f) = enterStep s (padded f) (length f)
 stepOf s (show f) = showStep s (padded f) (length f) enough
 stepOf s (withdraw f) = withdrawStep s (padded f) (length f) enough
@@ -159,7 +160,7 @@ runLines (x ∷ xs) room r =
     let l = lineOf x in
     let step = stepOf (r .store) l in
     let answer = answerText l step in
-    let stopped : Run = record { number = 10; lines = r .lines; text = r .text; store = r .store; tally = r .tally } in
+    let stopped : Run = record { number = shortRoom; lines = r .lines; text = r .text; store = r .store; tally = r .tally } in
     let next : Run =
     record { number = 0; lines = suc (r .lines); text = r .text ++ answer; store = step .store; tally = counted (r .tally) (r .store) l step } in
     let rest = runLines xs room next in
@@ -182,7 +183,7 @@ abbrev pub started : Store → Tally → Run
 started s t = record { number = 0; lines = 0; text = []; store = s; tally = t }
 
 abbrev pub jobIf : Bool → List ℕ → List ℕ → List ℕ → List ℕ → Tally → Finished
-jobIf false w scratch text out t = turnedAway 3 w out (cleaned (need (shapeOf w)) scratch) t
+jobIf false w scratch text out t = turnedAway notSound w out (cleaned (need (shapeOf w)) scratch) t
 jobIf true w scratch text out t =
     let r = runLines (linesOf text) (length out) (started (decode w) t) in
     record {
@@ -201,6 +202,6 @@ mostText = 16384
 -- first 11, then 13, then 3; soundness is tested once
 unfoldable pub job : List ℕ → List ℕ → List ℕ → List ℕ → Tally → Finished
 job w scratch text out t =
-    cond (ltb (length scratch) (need (shapeOf w))) (turnedAway 11 w out scratch t)
-    (cond (ltb mostText (length text)) (turnedAway 13 w out (cleaned (need (shapeOf w)) scratch) t)
+    cond (ltb (length scratch) (need (shapeOf w))) (turnedAway shortScratch w out scratch t)
+    (cond (ltb mostText (length text)) (turnedAway longText w out (cleaned (need (shapeOf w)) scratch) t)
     (jobIf (sound w) w scratch text out t))

@@ -7,6 +7,7 @@ pub mod Model
 pub mod Layout
 pub mod Meaning
 pub mod Words
+pub mod Numbers
 pub mod Calls
 pub mod Plain
 pub mod Runs

@@ -17,6 +17,7 @@ mod fresh;
 mod front;
 pub mod layout;
 mod marks;
+pub mod numbers;
 mod parts;
 pub mod plans;
 mod search;
@@ -46,10 +47,10 @@ pub fn open(words: &mut [u32], cards: u32, faults: u32) -> u32
 {
     let s = front::shape_for(cards, faults);
     if !front::limits_ok(s) {
-        return 1;
+        return numbers::BAD_LIMITS;
     }
     if words.len() != front::length_for(s) {
-        return 2;
+        return numbers::BAD_LENGTH;
     }
     fresh::fill(words, s);
     0
@@ -74,10 +75,10 @@ pub fn admit(words: &[u32], scratch: &mut [u8]) -> u32
     ensures { λ r. ⌜ Admits (now (words .entry)) (now (scratch .entry)) r (now (scratch .exit)) ⌝ }
 {
     if scratch.len() < front::need(words) {
-        return 11;
+        return numbers::SHORT_SCRATCH;
     }
     if !check(words, scratch) {
-        return 3;
+        return numbers::NOT_SOUND;
     }
     0
 }

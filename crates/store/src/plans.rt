@@ -17,6 +17,7 @@ use crate::Answer;
 use crate::cells;
 use crate::cells::Header;
 use crate::layout;
+use crate::numbers;
 use crate::search;
 use crate::search::Spot;
 use crate::serial;
@@ -159,15 +160,15 @@ pub fn plan_enter(w: &[u32], serial: [u8; 16], len: usize) -> Plan
     ensures { λ r. ⌜ Plans (enterStep (decode (now (w .entry))) serial len .answer) (now (w .entry)) serial len r ⌝ }
 {
     if !serial::valid_serial(serial, len) {
-        return turned_down(w, 4);
+        return turned_down(w, numbers::BAD_SERIAL);
     }
     let s = search::find(w, serial, len);
     let h = search::header_of(w);
     if s.held {
-        return refused(h, 6, s.place, 0);
+        return refused(h, numbers::ALREADY_HELD, s.place, 0);
     }
     if cells::word(w, layout::HELD_AT) == h.cards {
-        return refused(h, 8, s.place, 0);
+        return refused(h, numbers::CARDS_FULL, s.place, 0);
     }
     let scanned = grow_scan(w, h, s.bucket);
     accepted(h, s, scanned, 0)
@@ -179,18 +180,18 @@ pub fn plan_file(w: &[u32], serial: [u8; 16], len: usize, day: u32, code: u32) -
     ensures { λ r. ⌜ Plans (fileStep (decode (now (w .entry))) serial len day code .answer) (now (w .entry)) serial len r ⌝ }
 {
     if !serial::valid_serial(serial, len) {
-        return turned_down(w, 4);
+        return turned_down(w, numbers::BAD_SERIAL);
     }
     if !serial::valid_fault(day, code) {
-        return turned_down(w, 5);
+        return turned_down(w, numbers::BAD_FAULT);
     }
     let s = search::find(w, serial, len);
     let h = search::header_of(w);
     if !s.held {
-        return refused(h, 7, s.place, 0);
+        return refused(h, numbers::NOT_HELD, s.place, 0);
     }
     if cells::word(w, layout::FAULTS_HELD_AT) == h.faults {
-        return refused(h, 9, s.place, 0);
+        return refused(h, numbers::FAULTS_FULL, s.place, 0);
     }
     let n = cells::card_word(w, h, s.cell, layout::TO_COUNT);
     accepted(h, s, 0, n + 1)
@@ -204,11 +205,11 @@ fn plan_pairs(w: &[u32], serial: [u8; 16], len: usize, room: usize) -> Plan
     let s = search::find(w, serial, len);
     let h = search::header_of(w);
     if !s.held {
-        return refused(h, 7, s.place, 0);
+        return refused(h, numbers::NOT_HELD, s.place, 0);
     }
     let n = cells::card_word(w, h, s.cell, layout::TO_COUNT);
     if room < 2 * (n as usize) {
-        return refused(h, 10, s.place, n);
+        return refused(h, numbers::SHORT_ROOM, s.place, n);
     }
     accepted(h, s, 0, n)
 }
@@ -219,7 +220,7 @@ pub fn plan_show(w: &[u32], serial: [u8; 16], len: usize, room: usize) -> Plan
     ensures { λ r. ⌜ PlansFor (showStep (decode (now (w .entry))) serial len) room (now (w .entry)) serial len r ⌝ }
 {
     if !serial::valid_serial(serial, len) {
-        return turned_down(w, 4);
+        return turned_down(w, numbers::BAD_SERIAL);
     }
     plan_pairs(w, serial, len, room)
 }
@@ -230,7 +231,7 @@ pub fn plan_withdraw(w: &[u32], serial: [u8; 16], len: usize, room: usize) -> Pl
     ensures { λ r. ⌜ PlansFor (withdrawStep (decode (now (w .entry))) serial len) room (now (w .entry)) serial len r ⌝ }
 {
     if !serial::valid_serial(serial, len) {
-        return turned_down(w, 4);
+        return turned_down(w, numbers::BAD_SERIAL);
     }
     let t = plan_pairs(w, serial, len, room);
     if t.number != 0 {
