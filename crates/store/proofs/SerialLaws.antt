@@ -1,17 +1,18 @@
 -- A serial that travels, by its two parts: with a length within 1 to 16 it is valid where all bytes up to the length are allowed and all
--- behind it are zero (`valid-parts`); any other length is not valid (`short-invalid`, `long-invalid`).
-use mathlib.Core.Path.{_≡_, refl, ap, _∙_}
-use mathlib.Core.Bool.{Bool, true, false, _&&_}
+-- behind it are zero (`valid-parts`); any other length is not valid (`short-invalid`, `long-invalid`). And the bytes that are allowed, as a
+-- table of bits from the hyphen on: each byte was looked at (`table-tells`).
+use mathlib.Core.Path.{_≡_, refl, sym, ap, _∙_}
+use mathlib.Core.Bool.{Bool, true, false, not, cond, _&&_}
 use mathlib.Core.List.{List}
-use Prim.Native.Nat.{ℕ, zero, suc, _≤_, _<_}
+use Prim.Native.Nat.{ℕ, zero, suc, _-_, _/_, _%_, _^_, _≤_, _<_}
 use native.Mathlib.Omega.{arith}
 use lib.Dec.{eqb}
 use lib.ListN.{length, take, drop}
 use lib.Seq.{length-take-le, take-all}
 use borrow.Author.Tests.{eq-eqb, ne-eqb}
-use Rattle.model.specs.Lists.{between, all}
+use Rattle.model.specs.Lists.{between, all, from}
 use Rattle.model.specs.Serial.{mostBytes, allowed, serialOk, validSerial}
-use Rattle.model.proofs.Lists.{between-is}
+use Rattle.model.proofs.Lists.{between-is, all-from}
 use Rattle.store.proofs.Rows.{and-rest, and-fails}
 
 pub valid-parts : (s : List ℕ) (n : ℕ) → length s ≡ mostBytes → 1 ≤ n → n ≤ mostBytes → validSerial s n ≡ (all allowed (take n s) && all (eqb 0) (drop n s))
@@ -31,3 +32,28 @@ unfolding validSerial
 long-invalid s n l h =
     let t : length (take n s) ≡ mostBytes = ap length (take-all n s (omega arith)) ∙ l in
     and-fails _ (ne-eqb (length (take n s)) n (omega arith))
+
+-- equal truths
+alike : Bool → Bool → Bool
+alike a b = cond a b (not b)
+
+are-alike : (a b : Bool) → alike a b ≡ true → a ≡ b
+unfolding alike
+are-alike true true e = refl
+are-alike true false e = sym e
+are-alike false true e = e
+are-alike false false e = refl
+
+pub table-tells : (b : ℕ) → 45 ≤ b → b ≤ 90 → eqb (70368743137273 / 2 ^ (b - 45) % 2) 1 ≡ allowed b
+unfolding allowed between alike
+table-tells b l h =
+    are-alike (eqb (70368743137273 / 2 ^ (b - 45) % 2) 1) (allowed b)
+    (all-from (λ (x : ℕ). alike (eqb (70368743137273 / 2 ^ (x - 45) % 2) 1) (allowed x)) 45 46 refl b l (omega arith))
+
+pub early-not-allowed : (b : ℕ) → b < 45 → allowed b ≡ false
+unfolding allowed between alike
+early-not-allowed b h = are-alike (allowed b) false (all-from (λ (x : ℕ). alike (allowed x) false) 0 45 refl b (omega arith) h)
+
+pub late-not-allowed : (b : ℕ) → 90 < b → b < 256 → allowed b ≡ false
+unfolding allowed between alike
+late-not-allowed b l h = are-alike (allowed b) false (all-from (λ (x : ℕ). alike (allowed x) false) 91 165 refl b l (omega arith))

@@ -1,23 +1,25 @@
--- `serial::is_allowed` meets its contract: an upper-case letter, or a digit, or the hyphen, in whatever order they are tested.
-use mathlib.Core.Path.{sym, _∙_}
-use Rattle.model.specs.Lists.{between}
-use Rattle.model.specs.Serial.{allowed}
-use Rattle.store.proofs.Rows.{or-holds, or-last, or-rest}
+-- `serial::is_allowed` meets its contract: no byte before the hyphen or behind Z is allowed, and of those between them the table tells which are.
+use mathlib.Core.Path.{sym}
+use native.Mathlib.Omega.{arith}
+use borrow.Author.Needs.{needs}
+use Rattle.store.proofs.SerialLaws.{early-not-allowed, late-not-allowed, table-tells}
 use Rattle.store.proofs.serial.is_allowed.Statement.{statement}
 use Rattle.store.proofs.serial.is_allowed.Tie as tie
 
 returns : tie.Need-returns
-unfolding allowed
-returns c = sym (or-holds _ (or-last (between 48 57 (c .before .before .args .b)) (sym (c .before .within .ensures) ∙ c .if1 .taken)))
+returns c = sym (early-not-allowed (c .before .args .b) (c .if1 .taken))
 
 returns-2 : tie.Need-returns-2
-unfolding allowed
-returns-2 c = sym (or-holds _ (or-holds _ (sym (c .before .within2 .ensures) ∙ c .if2 .taken)))
+returns-2 c = sym (late-not-allowed (c .before .before .args .b) (c .if2 .taken) (omega arith))
+
+cast-result : tie.Need-cast-result
+cast-result c = search needs
+
+shr-result : tie.Need-shr-result
+shr-result c = search needs
 
 returns-3 : tie.Need-returns-3
-unfolding allowed
-returns-3 c =
-    sym (or-rest _ (or-rest _ (sym (c .before .within2 .ensures) ∙ c .if2 .left) ∙ (sym (c .before .before .before .within .ensures) ∙ c .before .before .if1 .left)))
+returns-3 c = table-tells (c .before .before .args .b) (omega arith) (omega arith)
 
 pub is-allowed-spec : {M : Type 1} → statement M
-is-allowed-spec = tie.close (tie.spec (λ c κs. tt) returns (λ c κs. tt) returns-2 returns-3)
+is-allowed-spec = tie.close (tie.spec returns returns-2 cast-result shr-result returns-3)
