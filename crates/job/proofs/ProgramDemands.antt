@@ -27,7 +27,6 @@ use Rattle.model.proofs.Deeds.{job-calls, said-at, deed-run, deeds-run, deeds-d
 use Rattle.model.proofs.Heard.{events-append, tells-append, said-seen, said-told, seen-before, number-read}
 use Rattle.model.proofs.Jobs.{lines-few}
 use Rattle.store.specs.Leaves.{Opens}
-use Rattle.store.specs.Sequences as Calls
 use Rattle.store.proofs.ProgramDemands as Program
 use Rattle.store.proofs.ProgramDemands.{left-words, opened-words}
 use Rattle.job.specs.Counts.{tallyOf}

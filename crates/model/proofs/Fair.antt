@@ -9,7 +9,7 @@ use native.Mathlib.Omega.{arith}
 use lib.Dec.{leb, ltb, eqb}
 use lib.ListN.{length, length-append, length-map, List·getD-eq-default}
 use borrow.Author.Tests.{eq-eqb, eqb-true, eqb-false, ltb-true, ltb-false, leb-true, le-leb}
-use Rattle.rules.specs.Table.{least, top, stateOk}
+use Rattle.rules.specs.Table.{least, top, stateOk, loadFits}
 use Rattle.rules.proofs.Tests.{by-cases, both, all-of, either}
 use Rattle.rules.proofs.States.{state-of, state-wider, size-low}
 use Rattle.model.specs.Lists.{all, same, keep, join, total}
@@ -170,7 +170,7 @@ pub size-least : (s : Store) → Fair s → least ≤ size s
 size-least s r = omega (arith, size-low (state-of (topOf (s .shape)) (s .maxp) (s .p) (r .state) .size))
 
 pub load-is : (s : Store) → Fair s → loadOk s ≡ true → (size s < topOf (s .shape) → held s ≤ s .shape .upper * size s) × (least < size s → s .shape .lower * size s ≤ held s)
-unfolding loadOk
+unfolding loadOk loadFits
 load-is s r t =
     let t₀ = eqb (size s) (topOf (s .shape)) in
     let u = leb (held s) (s .shape .upper * size s) in
@@ -182,7 +182,7 @@ load-is s r t =
     )
 
 pub is-load : (s : Store) → Good s → loadOk s ≡ true
-unfolding loadOk
+unfolding loadOk loadFits
 is-load s g =
     all-of {a = eqb (size s) (topOf (s .shape)) || leb (held s) (s .shape .upper * size s)} {b = eqb (size s) least || leb (s .shape .lower * size s) (held s)}
     (by-cases (eqb (size s) (topOf (s .shape)))

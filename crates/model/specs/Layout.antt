@@ -2,11 +2,11 @@
 -- encoding of a good store.
 use Prim.Native.Nat.{ℕ, zero, suc, _+_, _-_, _*_, _/_, _%_, _^_}
 use mathlib.Core.List.{List, [], _∷_, _++_, map}
-use mathlib.Core.Bool.{Bool, true, false, _&&_, _||_, cond}
-use lib.Dec.{leb, ltb, eqb}
+use mathlib.Core.Bool.{Bool, true, false, _&&_, cond}
+use lib.Dec.{ltb, eqb}
 use lib.ListN.{length, take, getD, replicate}
 use Rattle.rules.specs.Code.{codeOf}
-use Rattle.rules.specs.Table.{least, stateOk, addressOf}
+use Rattle.rules.specs.Table.{stateOk, addressOf, loadFits}
 use Rattle.model.specs.Lists.{between, all, same, join, from, distinct}
 use Rattle.model.specs.Shape.{Shape, segmentSize, entries, topOf, cardWidth, mostCards, mostFaults}
 use Rattle.model.specs.Serial.{serialOk, validFault}
@@ -315,9 +315,7 @@ serialsOk s = distinct same (map (λ c. c .serial) (cards s))
 
 -- n ≤ UB or B is the most, and B = 16 or n ≥ LB
 unfoldable pub loadOk : Store → Bool
-loadOk s =
-    (eqb (size s) (topOf (s .shape)) || leb (held s) (s .shape .upper * size s))
-    && (eqb (size s) least || leb (s .shape .lower * size s) (held s))
+loadOk s = loadFits (topOf (s .shape)) (s .shape .upper) (s .shape .lower) (held s) (size s)
 
 -- all but the load, which an entry breaks until its split
 unfoldable pub fair : Store → Bool

@@ -38,6 +38,10 @@ splits t u n b = ltb (u * b) n && ltb b t
 unfoldable pub contracts : ℕ → ℕ → ℕ → Bool
 contracts l n b = ltb n (l * b) && ltb least b
 
+-- a table keeps n cards in b buckets: at most u a bucket or all t buckets, and at least l a bucket or the fewest
+unfoldable pub loadFits : ℕ → ℕ → ℕ → ℕ → ℕ → Bool
+loadFits t u l n b = (eqb b t || leb n (u * b)) && (eqb b least || leb (l * b) n)
+
 -- the state with one bucket more: p grows by 1; if p = maxp, maxp doubles and p is 0
 unfoldable pub highMaxp : ℕ → ℕ → ℕ
 highMaxp maxp p = cond (eqb (p + 1) maxp) (2 * maxp) maxp

@@ -1,9 +1,12 @@
-// The code of a serial, the address rule and the load rules, below the store. The C host of the
+// The code of a serial, the address rule, the load rules and the states of a table, below the store. The C host of the
 // reader calls `reader_code` and `reader_address` directly.
 ghost use mathlib.Core.Path.{_≡_};
+ghost use mathlib.Core.Bool.{_||_};
+ghost use Prim.Native.Nat.{_+_, _*_, _≤_, _<_};
+ghost use lib.Dec.{eqb, leb};
 ghost use lib.ListN.{take};
 ghost use Rattle.rules.specs.Code.{codeStep, codeOf};
-ghost use Rattle.rules.specs.Table.{stateOk, addressOf, splits, contracts};
+ghost use Rattle.rules.specs.Table.{least, top, stateOk, addressOf, splits, contracts, loadFits, highMaxp, highP, lowMaxp, lowP};
 use std::num::wrapping_add_u32;
 
 // The most bytes of a serial; it travels in as many.
@@ -90,4 +93,54 @@ pub fn must_contract(lower: u32, n: u32, b: u32) -> bool
     ensures { λ r. ⌜ r ≡ contracts lower n b ⌝ }
 {
     (n as u64) < (lower as u64) * (b as u64) && LEAST < b
+}
+
+// Whether n cards are not too many for b buckets: at most `upper` a bucket, or all `top` buckets are there.
+fn not_over(top: u32, upper: u32, n: u32, b: u32) -> bool
+    ensures { λ r. ⌜ r ≡ (eqb b top || leb n (upper * b)) ⌝ }
+{
+    b == top || n as u64 <= (upper as u64) * (b as u64)
+}
+
+// Whether n cards are not too few for b buckets: at least `lower` a bucket, or no more buckets than the fewest.
+fn not_under(lower: u32, n: u32, b: u32) -> bool
+    ensures { λ r. ⌜ r ≡ (eqb b least || leb (lower * b) n) ⌝ }
+{
+    b == LEAST || (lower as u64) * (b as u64) <= n as u64
+}
+
+// Whether a table keeps n cards in b buckets as they are.
+pub fn load_fits(top: u32, upper: u32, lower: u32, n: u32, b: u32) -> bool
+    ensures { λ r. ⌜ r ≡ loadFits top upper lower n b ⌝ }
+{
+    not_over(top, upper, n, b) && not_under(lower, n, b)
+}
+
+// The state with one bucket more: p grows by 1; if p = maxp, maxp doubles and p is 0.
+pub fn high_maxp(maxp: u32, p: u32) -> u32
+    requires { ⌜ maxp + p < top ⌝ }
+    ensures { λ r. ⌜ r ≡ highMaxp maxp p ⌝ }
+{
+    if p + 1 == maxp { 2 * maxp } else { maxp }
+}
+
+pub fn high_p(maxp: u32, p: u32) -> u32
+    requires { ⌜ maxp + p < top ⌝ }
+    ensures { λ r. ⌜ r ≡ highP maxp p ⌝ }
+{
+    if p + 1 == maxp { 0 } else { p + 1 }
+}
+
+// The state with one bucket less: p falls by 1; if it was 0, maxp halves and p is the new maxp - 1.
+pub fn low_maxp(maxp: u32, p: u32) -> u32
+    ensures { λ r. ⌜ r ≡ lowMaxp maxp p ⌝ }
+{
+    if p == 0 { maxp / 2 } else { maxp }
+}
+
+pub fn low_p(maxp: u32, p: u32) -> u32
+    requires { ⌜ 2 ≤ maxp ⌝ }
+    ensures { λ r. ⌜ r ≡ lowP maxp p ⌝ }
+{
+    if p == 0 { maxp / 2 - 1 } else { p - 1 }
 }

@@ -1,5 +1,5 @@
 -- Calls from their parts. On sound words a call is its plan and, where that goes ahead, the change (`enter-refused`, `enter-done` ..); for any
--- words the one door answers 11, 3 or 0 (`admit-short`, `admit-unsound`, `admit-sound`); the entry point refuses by that number (`call-turned`) or does
+-- words the one door answers 11, 3 or 0 (`admit-short`, `admit-unsound`, `admit-sound`); the entry point refuses by that number (`call-refused`) or does
 -- what the call does (`call-does`).
 use mathlib.Core.Path.{_≡_, refl, sym, subst, _∙_}
 use mathlib.Core.Bool.{true, false}
@@ -17,14 +17,14 @@ use Rattle.model.proofs.Sound.{sound-good, words-stay}
 use Rattle.model.proofs.Cases.{enter-cases, file-cases, show-cases}
 use Rattle.model.proofs.Outcomes.{admitted}
 use Rattle.model.proofs.Refused.{refused-act}
-use Rattle.store.specs.Leaves.{Gives, turned, Admits, Leaves, Does}
-use Rattle.store.specs.declared.Answer as given
+use Rattle.store.specs.Leaves.{Gives, refusedAnswer, Admits, Leaves, Does}
+use Rattle.store.specs.declared.answer.Answer as given
 use Rattle.store.specs.Plans.{answered, Plans}
 use Rattle.store.specs.declared.plans.Plan.{Plan}
 
 -- entry points
 
-refuses : (n : ℕ) {r : given.Answer} → r ≡ turned n → Gives (refused n) r
+refuses : (n : ℕ) {r : given.Answer} → r ≡ refusedAnswer n → Gives (refused n) r
 refuses n a = rw a (record { number-is = refl; comparisons-are = refl; scanned-is = refl; faults-are = refl })
 
 -- what the one door answers
@@ -47,9 +47,9 @@ module _ (w scratch : List ℕ) {k : ℕ} {left : List ℕ} (a : Admits w scratc
   sound-words z = admitted w scratch (sym (a .number-is) ∙ z) .1
 
   module _ (step : Store → Step) (room : List ℕ) {r : given.Answer} where
-    pub call-turned : (k ≡ 0 → ⊥) → r ≡ turned k → Leaves (call step w scratch room) r w room left
+    pub call-refused : (k ≡ 0 → ⊥) → r ≡ refusedAnswer k → Leaves (call step w scratch room) r w room left
     unfolding call
-    call-turned ne e =
+    call-refused ne e =
         rw (ne-eqb (admission w scratch) 0 (λ z. ne (a .number-is ∙ z)))
         (record { answer = subst (λ (n : ℕ). Gives (refused n) r) (a .number-is) (refuses k e); words-are = refl; room-is = refl; scratch-is = a .scratch-is })
 

@@ -16,7 +16,7 @@ use Rattle.model.specs.Shape.{segmentSize, Shape, entries, topOf, cardWidth}
 use Rattle.model.specs.Layout.{toNext, faultWidth, segmentsAt, cardsAt, faultsAt, lengthFor, shapeOk, cellAt, cardWord, faultWord}
 use Rattle.model.proofs.Places.{cellAt-below}
 use Rattle.model.proofs.Shapes.{top-most, entries-some, width-least, width-most, shaped, few-cards, few-faults}
-use Rattle.store.specs.declared.cells.Header.{Header}
+use Rattle.store.specs.declared.header.Header.{Header}
 use Rattle.store.specs.Cells.{shapeIn, Room, Sized, widthOf, cellWord, sameKey, metFirst, freeFits, limitOf}
 use Rattle.store.proofs.Rows.{testFrom}
 use lib.Seq.{getD-take, getD-drop}

@@ -13,7 +13,7 @@ use Rattle.model.specs.Layout.{cellAt, follow, faultWord}
 use Rattle.model.specs.Meaning.{nextFault}
 use Rattle.model.specs.Words.{faultAt, clearWords, giveWords}
 use Rattle.model.proofs.Give.{clear-none, clear-step}
-use Rattle.store.specs.declared.cells.Header.{Header}
+use Rattle.store.specs.declared.header.Header.{Header}
 use Rattle.store.specs.Cells.{shapeIn, Sized}
 use Rattle.store.specs.Search.{Ends}
 use Rattle.store.proofs.AlongLaws.{follow-length}

@@ -28,7 +28,7 @@ use Rattle.model.proofs.Look.{look-once, address-in}
 use Rattle.model.proofs.Cut.{Absent, Present, absent, present}
 use Rattle.model.proofs.Shapes.{in-card}
 use Rattle.model.proofs.Valid.{valid-serial}
-use Rattle.store.specs.declared.cells.Header.{Header}
+use Rattle.store.specs.declared.header.Header.{Header}
 use Rattle.store.specs.Cells.{shapeIn, Read, packedAll}
 use Rattle.store.specs.Search.{Ends, hasKey, searchIn, searched, Finds, faultsFrom}
 use Rattle.store.specs.declared.search.Found.{Found}

@@ -13,7 +13,7 @@ use Rattle.model.specs.Bounds.{mostWidth}
 use Rattle.model.specs.Shape.{Shape, entries, topOf, cardWidth}
 use Rattle.model.specs.Layout.{maxpAt, pAt, directoryOffsetAt, segmentsOffsetAt, cardsOffsetAt, faultsOffsetAt, wholeLengthAt, boundsAt, ruleAt, directoryAt, segmentsAt, cardsAt, faultsAt, lengthFor, boundsWord, ruleWord, shapeOk, shapeOf}
 use Rattle.model.proofs.Shapes.{width-most, top-most}
-use Rattle.store.specs.declared.cells.Header.{Header}
+use Rattle.store.specs.declared.header.Header.{Header}
 use Rattle.store.specs.Cells.{shapeIn, Read}
 use Rattle.store.specs.Checker.{limitsFit, endsFit, offsetsFit, entryFor, directoryFits, restFits}
 use Rattle.store.proofs.Rows.{testFrom}

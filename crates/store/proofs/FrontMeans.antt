@@ -9,7 +9,7 @@ use native.Mathlib.Omega.{arith}
 use borrow.Author.Tests.{eqb-true, eq-eqb, leb-true, le-leb, ltb-true, ltb-false, lt-ltb, le-ltb}
 use lib.Dec.{eqb, leb, ltb}
 use lib.ListN.{length, getD}
-use Rattle.rules.specs.Table.{least, stateOk}
+use Rattle.rules.specs.Table.{least, stateOk, loadFits}
 use Rattle.rules.proofs.Tests.{by-cases, both, all-of, either}
 use Rattle.rules.proofs.States.{state-of}
 use Rattle.model.specs.Shape.{Shape, segmentSize, entries, topOf}
@@ -17,7 +17,7 @@ use Rattle.model.specs.Layout.{formatAt, limitAt, faultLimitAt, maxpAt, pAt, he
 use Rattle.model.specs.Layout.{directoryAt, segmentsAt, cardsAt, faultsAt, lengthFor, boundsWord, ruleWord, shapeOk, shapeOf}
 use Rattle.model.specs.Meaning.{bucketsIn, bucketWord, Sound}
 use Rattle.model.proofs.Lists.{all-from, from-all}
-use Rattle.store.specs.Checker.{limitsFit, offsetsFit, endsFit, loadFits, entryFor, directoryFits, restFits, frontFits}
+use Rattle.store.specs.Checker.{limitsFit, offsetsFit, endsFit, entryFor, directoryFits, restFits, frontFits}
 use Rattle.store.proofs.FrontLaws.{fit-is, offsets-are}
 
 -- the clauses of `Sound` that tell of the words before the cells
@@ -75,12 +75,12 @@ module _ (w : List ℕ) where
       let (limits, e₁) = both (limitsFit w) _ e in
       let (offsets, e₂) = both (offsetsFit w) _ e₁ in
       let (state, e₃) = both (stateOk (topOf sh) (getD w maxpAt 0) (getD w pAt 0)) _ e₂ in
-      let (load, e₄) = both (loadFits sh n b) _ e₃ in
+      let (load, e₄) = both (loadFits (topOf sh) (sh .upper) (sh .lower) n b) _ e₃ in
       let (entries-ok, rest) = both (directoryFits sh w b) (restFits sh w b) e₄ in
       let fit = fit-is w limits in
       let at = offsets-are w offsets in
       let room = state-of (topOf sh) (getD w maxpAt 0) (getD w pAt 0) state .room in
-      let (n₁, n₂) = both (leb n (sh .upper * b) || leb (topOf sh) b) (eqb b least || leb (sh .lower * b) n) load in
+      let (n₁, n₂) = both (eqb b (topOf sh) || leb n (sh .upper * b)) (eqb b least || leb (sh .lower * b) n) load in
       let entry : (k : ℕ) → k < entries sh → getD w (directoryAt + k) 0 ≡ entryFor (segmentsAt sh) b k =
       λ k h. eqb-true (getD w (directoryAt + k) 0) (entryFor (segmentsAt sh) b k) (all-from entry-right 0 (entries sh) entries-ok k (omega arith) (omega arith)) in
       record {
@@ -99,7 +99,7 @@ module _ (w : List ℕ) where
         wholeLength = fit .long;
         directoryUsed = λ k h u. entry k h ∙ entry-used (segmentsAt sh) b k u;
         directoryUnused = λ k h u. entry k h ∙ entry-unused (segmentsAt sh) b k u;
-        notOver = ⊎-elim (λ t. inr (leb-true n (sh .upper * b) t)) (λ t. inl (omega (arith, room, leb-true (topOf sh) b t))) (either (leb n (sh .upper * b)) (leb (topOf sh) b) n₁);
+        notOver = ⊎-elim (λ t. inl (eqb-true b (topOf sh) t)) (λ t. inr (leb-true n (sh .upper * b) t)) (either (eqb b (topOf sh)) (leb n (sh .upper * b)) n₁);
         notUnder = ⊎-elim (λ t. inl (eqb-true b least t)) (λ t. inr (leb-true (sh .lower * b) n t)) (either (eqb b least) (leb (sh .lower * b) n) n₂);
         unusedZero = λ j l h. eqb-true (getD w (segmentsAt sh + j) 0) 0 (all-from bucket-empty b (topOf sh - b) rest j l (omega arith));
       }
@@ -118,9 +118,9 @@ module _ (w : List ℕ) where
       (all-of (from-all entry-right 0 (entries sh) (λ k l h. eq-eqb (getD w (directoryAt + k) 0) (entryFor (segmentsAt sh) b k) (entry k (omega arith))))
       (from-all bucket-empty b (topOf sh - b) (λ j l h. eq-eqb (getD w (segmentsAt sh + j) 0) 0 (s .unusedZero j l (omega (arith, state-of (topOf sh) (getD w maxpAt 0) (getD w pAt 0) (s .state) .room)))))))))
     where
-      over : (b ≡ topOf sh) ⊎ (n ≤ sh .upper * b) → (leb n (sh .upper * b) || leb (topOf sh) b) ≡ true
-      over (inl e) = by-cases (leb n (sh .upper * b)) (λ t. rw t) (λ t. rw t (le-leb (topOf sh) b (omega (arith, e))))
-      over (inr h) = rw (le-leb n (sh .upper * b) h)
+      over : (b ≡ topOf sh) ⊎ (n ≤ sh .upper * b) → (eqb b (topOf sh) || leb n (sh .upper * b)) ≡ true
+      over (inl e) = rw (eq-eqb b (topOf sh) e)
+      over (inr h) = by-cases (eqb b (topOf sh)) (λ e. rw e) (λ e. rw e (le-leb n (sh .upper * b) h))
 
       under : (b ≡ least) ⊎ (sh .lower * b ≤ n) → (eqb b least || leb (sh .lower * b) n) ≡ true
       under (inl e) = rw (eq-eqb b least e)

@@ -24,7 +24,7 @@ use Rattle.model.proofs.Rep.{Rep, rep-head, rep-encode, rep-words}
 use Rattle.model.proofs.Decode.{rep-decode, shape-at}
 use Rattle.model.proofs.Split.{rep-grown}
 use Rattle.model.proofs.Join.{rep-shrunk}
-use Rattle.store.specs.declared.cells.Header.{Header}
+use Rattle.store.specs.declared.header.Header.{Header}
 use Rattle.store.specs.Cells.{shapeIn, Read}
 use Rattle.store.specs.Checker.{limitsFit, offsetsFit, endsFit}
 use Rattle.store.specs.Search.{Ends}

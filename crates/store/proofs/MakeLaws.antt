@@ -8,15 +8,16 @@ use mathlib.Core.List.{List, [], _∷_, map}
 use Prim.Native.Nat.{ℕ, _+_, _*_, _≤_, _<_}
 use native.Mathlib.Omega.{arith}
 use lib.Dec.{lit<}
-use lib.ListN.{length, take}
+use lib.ListN.{length, take, getD, set, length-set}
+use lib.Seq.{sets, getD-set-same}
 use borrow.Author.Tests.{lt-ltb, le-ltb, ne-eqb}
 use Rattle.rules.proofs.Tests.{eq?}
 use Rattle.model.specs.Shape.{Shape, topOf, cardWidth}
 use Rattle.model.specs.Serial.{validSerial, validFault}
 use Rattle.model.specs.Model.{Fault, Card, Store, cards, held, faultsHeld, chainFor, comparisons, splitScan, contractScan, faultCellsOf, placed, grown, entered, filed, historyIn, removed, shrunk, withdrawn}
-use Rattle.model.specs.Layout.{toFirst, toLast, last, follow, faultWidth, cardsAt, faultsAt, lengthFor, cardCell, cardWord, readFault, decode, encode, sound}
+use Rattle.model.specs.Layout.{heldAt, freeAt, toNext, toFirst, toLast, last, follow, faultWidth, cardsAt, faultsAt, lengthFor, cardCell, cardWord, readFault, decode, encode, sound}
 use Rattle.model.specs.Meaning.{nextFault}
-use Rattle.model.specs.Words.{placeWords, fileWords, removeWords}
+use Rattle.model.specs.Words.{cardAt, linkAt, newWords, placeWords, fileWords, removeWords}
 use Rattle.model.specs.Calls.{Step, gives, stays, written, enterStep, fileStep, showStep, withdrawStep}
 use Rattle.model.proofs.Fair.{one, filings, card-count, faults-total, fault-count}
 use Rattle.model.proofs.Sums.{length-total}
@@ -33,7 +34,7 @@ use Rattle.model.proofs.Whole.{taken-in, historyOf}
 use Rattle.model.proofs.Place.{rep-placed}
 use Rattle.model.proofs.File.{rep-filed}
 use Rattle.model.proofs.Remove.{rep-removed}
-use Rattle.store.specs.declared.cells.Header.{Header}
+use Rattle.store.specs.declared.header.Header.{Header}
 use Rattle.store.specs.Cells.{shapeIn, Read}
 use Rattle.store.specs.Search.{faultsFrom}
 use Rattle.store.specs.Plans.{Places, Plans, Holds, Paired}
@@ -79,7 +80,7 @@ read-kept {w} {v} {h} {s} q t a b c =
       state = p-at v s t ∙ c ∙ z .2;
     }
 
--- plans that go ahead
+-- plans that go acceptedPlan
 
 -- the places of a plan as those of a search
 abbrev spotOf : Store → List ℕ → Plan → Bool → Spot
@@ -145,6 +146,16 @@ module _ (w : List ℕ) (e : sound w ≡ true) (bytes : List ℕ) (n : ℕ) {r :
     pub read-place : {v : List ℕ} → v ≡ placeWords (shapeIn (r .header)) w (r .bucket) (r .prev) (take n bytes) → Read v (r .header)
     unfolding placed
     read-place i = read-kept (p .header) (rep-place i) refl refl refl
+
+    -- and their fifth word counts it
+    pub held-place : {v : List ℕ} → v ≡ placeWords (shapeIn (r .header)) w (r .bucket) (r .prev) (take n bytes) → getD v heldAt 0 ≡ getD w heldAt 0 + 1
+    unfolding placeWords
+    held-place {v} i =
+        let sh = shapeIn (r .header) in
+        let new = getD w freeAt 0 in
+        let linked : List ℕ = set (sets (set w freeAt (cardWord sh w new toNext)) (cardAt sh new toNext) (newWords (take n bytes))) (linkAt sh (r .bucket) (r .prev)) new in
+        let long : length v ≡ length linked = ap length i ∙ length-set linked heldAt (getD w heldAt 0 + 1) in
+        ap (λ (l : List ℕ). getD l heldAt 0) i ∙ getD-set-same linked heldAt (getD w heldAt 0 + 1) 0 (omega (arith, long, read-place i .sized .room))
 
     pub made-enter : {v u : List ℕ} → v ≡ placeWords (shapeIn (r .header)) w (r .bucket) (r .prev) (take n bytes) → u ≡ encode (grown (decode v)) → u ≡ encode (enterStep (decode w) bytes n .store)
     unfolding entered

@@ -10,7 +10,7 @@ use lib.Dec.{eqb}
 use lib.ListN.{length, drop, getD}
 use Rattle.model.specs.Shape.{Shape, topOf, need}
 use Rattle.model.specs.Layout.{maxpAt, pAt, freeAt, freeFaultsAt, shapeOf}
-use Rattle.store.specs.declared.cells.Header.{Header}
+use Rattle.store.specs.declared.header.Header.{Header}
 use Rattle.rules.proofs.Tests.{both}
 use Rattle.rules.proofs.States.{state-of}
 use Rattle.model.specs.Lists.{from}

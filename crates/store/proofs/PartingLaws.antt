@@ -19,7 +19,7 @@ use Rattle.model.proofs.Sums.{count}
 use Rattle.model.proofs.Places.{cellAt-from, cellAt-cell}
 use Rattle.model.proofs.Shapes.{in-card}
 use Rattle.model.proofs.Split.{part-none, part-goes, part-stays}
-use Rattle.store.specs.declared.cells.Header.{Header}
+use Rattle.store.specs.declared.header.Header.{Header}
 use Rattle.store.specs.Cells.{shapeIn, Sized}
 use Rattle.store.specs.Search.{Ends}
 use Rattle.store.specs.Table.{MaySplit}

@@ -24,11 +24,11 @@ use Rattle.model.proofs.Sound.{sound-is, sound-good}
 use Rattle.model.proofs.Fair.{Good}
 use Rattle.model.proofs.Cases.{cards-fit}
 use Rattle.model.proofs.Numbers.{show-numbers}
-use Rattle.store.specs.declared.cells.Header.{Header}
+use Rattle.store.specs.declared.header.Header.{Header}
 use Rattle.store.specs.Cells.{shapeIn, Read}
 use Rattle.store.specs.Search.{Ends, Finds}
 use Rattle.store.specs.Leaves.{Gives}
-use Rattle.store.specs.Plans.{growScan, shrinkScan, refusal, ahead, answered, Plans, PlansFor}
+use Rattle.store.specs.Plans.{growScan, shrinkScan, refusedPlan, acceptedPlan, answered, Plans, PlansFor}
 use Rattle.store.specs.declared.plans.Plan.{Plan}
 use Rattle.store.specs.declared.search.Spot.{Spot}
 use Rattle.store.proofs.AlongLaws.{follow-length}
@@ -116,12 +116,12 @@ module _ {w : List ℕ} (e : sound w ≡ true) {h : Header} (q : Read w h) where
 -- the two kinds of plans
 
 module _ {w : List ℕ} {h : Header} (q : Read w h) (bytes : List ℕ) (n : ℕ) {a : Answer} where
-  plan-refused : (k place faults : ℕ) → a ≡ gives (suc k) place 0 faults → Plans a w bytes n (refusal h (suc k) place faults)
+  plan-refused : (k place faults : ℕ) → a ≡ gives (suc k) place 0 faults → Plans a w bytes n (refusedPlan h (suc k) place faults)
   plan-refused k place faults g =
       rw g (record { answer = record { number-is = refl; comparisons-are = refl; scanned-is = refl; faults-are = refl }; header = q; places = λ z. absurd (omega arith) })
 
-  plan-ahead : validSerial bytes n ≡ true → {o : Spot} → Finds (decode w) (take n bytes) o → (scan faults : ℕ) → a ≡ gives 0 (o .place) scan faults → Plans a w bytes n (ahead h o scan faults)
-  plan-ahead v f scan faults g =
+  plan-accepted : validSerial bytes n ≡ true → {o : Spot} → Finds (decode w) (take n bytes) o → (scan faults : ℕ) → a ≡ gives 0 (o .place) scan faults → Plans a w bytes n (acceptedPlan h o scan faults)
+  plan-accepted v f scan faults g =
       rw g (record {
         answer = record { number-is = refl; comparisons-are = refl; scanned-is = refl; faults-are = refl };
         header = q;
@@ -130,8 +130,8 @@ module _ {w : List ℕ} {h : Header} (q : Read w h) (bytes : List ℕ) (n : ℕ)
 
 -- a call that is refused before its serial is looked for
 module _ {w : List ℕ} (bytes : List ℕ) (n : ℕ) {a : Answer} {r : Plan} where
-  plan-turned : (k : ℕ) → Gives (gives (suc k) 0 0 0) (answered r) × Read w (r .header) → a ≡ gives (suc k) 0 0 0 → Plans a w bytes n r
-  plan-turned k t g = rw g (record { answer = t .0; header = t .1; places = λ z. absurd (omega (arith, t .0 .number-is)) })
+  plan-refused-early : (k : ℕ) → Gives (gives (suc k) 0 0 0) (answered r) × Read w (r .header) → a ≡ gives (suc k) 0 0 0 → Plans a w bytes n r
+  plan-refused-early k t g = rw g (record { answer = t .0; header = t .1; places = λ z. absurd (omega (arith, t .0 .number-is)) })
 
 -- the header of a plan for any room of so many words
 pub plans-header : {step : List ℕ → Step} {room : ℕ} {w bytes : List ℕ} {n : ℕ} {r : Plan} → PlansFor step room w bytes n r → Read w (r .header)
@@ -144,24 +144,24 @@ module _ (w : List ℕ) (bytes : List ℕ) (n : ℕ) {r : Plan} where
   module _ (t : Gives (gives 4 0 0 0) (answered r) × Read w (r .header)) (v : validSerial bytes n ≡ false) where
     pub enter-invalid : Plans (enterStep (decode w) bytes n .answer) w bytes n r
     unfolding enterStep
-    enter-invalid = plan-turned bytes n 3 t (rw v)
+    enter-invalid = plan-refused-early bytes n 3 t (rw v)
 
     pub file-invalid : (day code : ℕ) → Plans (fileStep (decode w) bytes n day code .answer) w bytes n r
     unfolding fileStep
-    file-invalid day code = plan-turned bytes n 3 t (rw v)
+    file-invalid day code = plan-refused-early bytes n 3 t (rw v)
 
     pub pairs-invalid : (room : ℕ) → PlansFor (showStep (decode w) bytes n) room w bytes n r
     unfolding showStep
-    pairs-invalid room = record { with-room = λ given l. plan-turned bytes n 3 t (rw v) }
+    pairs-invalid room = record { with-room = λ given l. plan-refused-early bytes n 3 t (rw v) }
 
     pub withdraw-invalid : (room : ℕ) → PlansFor (withdrawStep (decode w) bytes n) room w bytes n r
     unfolding withdrawStep
-    withdraw-invalid room = record { with-room = λ given l. plan-turned bytes n 3 t (rw v) }
+    withdraw-invalid room = record { with-room = λ given l. plan-refused-early bytes n 3 t (rw v) }
 
   pub file-bad : Gives (gives 5 0 0 0) (answered r) × Read w (r .header) → validSerial bytes n ≡ true → (day code : ℕ) → validFault day code ≡ false
       → Plans (fileStep (decode w) bytes n day code .answer) w bytes n r
   unfolding fileStep
-  file-bad t v day code u = plan-turned bytes n 4 t (rw (v, u))
+  file-bad t v day code u = plan-refused-early bytes n 4 t (rw (v, u))
 
 -- behind the search
 module _ (w : List ℕ) (e : sound w ≡ true) {h : Header} (q : Read w h) (bytes : List ℕ) (n : ℕ) where
@@ -172,22 +172,22 @@ module _ (w : List ℕ) (e : sound w ≡ true) {h : Header} (q : Read w h) (byte
         none : length (found (take n bytes) (chainFor (decode w) (take n bytes))) ≡ 0
         none = ap length (not-held (sound-is w e .0) (take n bytes) f z .absent .none)
 
-        pub enter-full : held (decode w) ≡ decode w .shape .limit → Plans (enterStep (decode w) bytes n .answer) w bytes n (refusal h 8 (o .place) 0)
+        pub enter-full : held (decode w) ≡ decode w .shape .limit → Plans (enterStep (decode w) bytes n .answer) w bytes n (refusedPlan h 8 (o .place) 0)
         unfolding enterStep
         enter-full k = plan-refused q bytes n 7 (o .place) 0 (rw (v, none, f .place-is, eq-eqb (held (decode w)) (decode w .shape .limit) k))
 
-        pub enter-ahead : (held (decode w) ≡ decode w .shape .limit → ⊥)
-            → Plans (enterStep (decode w) bytes n .answer) w bytes n (ahead h o (growScan (decode w) (o .bucket)) 0)
+        pub enter-accepted : (held (decode w) ≡ decode w .shape .limit → ⊥)
+            → Plans (enterStep (decode w) bytes n .answer) w bytes n (acceptedPlan h o (growScan (decode w) (o .bucket)) 0)
         unfolding enterStep
-        enter-ahead k =
-            plan-ahead q bytes n v f (growScan (decode w) (o .bucket)) 0
+        enter-accepted k =
+            plan-accepted q bytes n v f (growScan (decode w) (o .bucket)) 0
             (rw (v, none, f .place-is, f .bucket-is, grow-scan (decode w) (sound-is w e .0 .fair) (take n bytes), ne-eqb (held (decode w)) (decode w .shape .limit) k))
 
-        pub file-missing : (day code : ℕ) → validFault day code ≡ true → Plans (fileStep (decode w) bytes n day code .answer) w bytes n (refusal h 7 (o .place) 0)
+        pub file-missing : (day code : ℕ) → validFault day code ≡ true → Plans (fileStep (decode w) bytes n day code .answer) w bytes n (refusedPlan h 7 (o .place) 0)
         unfolding fileStep
         file-missing day code u = plan-refused q bytes n 6 (o .place) 0 (rw (v, u, none, f .place-is))
 
-        pub pairs-missing : (room : ℕ) → PlansFor (showStep (decode w) bytes n) room w bytes n (refusal h 7 (o .place) 0)
+        pub pairs-missing : (room : ℕ) → PlansFor (showStep (decode w) bytes n) room w bytes n (refusedPlan h 7 (o .place) 0)
         unfolding showStep
         pairs-missing room = record { with-room = λ given l. plan-refused q bytes n 6 (o .place) 0 (rw (v, none, f .place-is)) }
 
@@ -196,31 +196,31 @@ module _ (w : List ℕ) (e : sound w ≡ true) {h : Header} (q : Read w h) (byte
         one : length (found (take n bytes) (chainFor (decode w) (take n bytes))) ≡ 1
         one = ap length (is-held (sound-is w e .0) (take n bytes) f z .present .only)
 
-        pub enter-held : Plans (enterStep (decode w) bytes n .answer) w bytes n (refusal h 6 (o .place) 0)
+        pub enter-held : Plans (enterStep (decode w) bytes n .answer) w bytes n (refusedPlan h 6 (o .place) 0)
         unfolding enterStep
         enter-held = plan-refused q bytes n 5 (o .place) 0 (rw (v, one, f .place-is))
 
         module _ (day code : ℕ) (u : validFault day code ≡ true) where
-          pub file-full : faultsHeld (decode w) ≡ decode w .shape .faultLimit → Plans (fileStep (decode w) bytes n day code .answer) w bytes n (refusal h 9 (o .place) 0)
+          pub file-full : faultsHeld (decode w) ≡ decode w .shape .faultLimit → Plans (fileStep (decode w) bytes n day code .answer) w bytes n (refusedPlan h 9 (o .place) 0)
           unfolding fileStep
           file-full k = plan-refused q bytes n 8 (o .place) 0 (rw (v, u, one, f .place-is, eq-eqb (faultsHeld (decode w)) (decode w .shape .faultLimit) k))
 
-          pub file-ahead : (faultsHeld (decode w) ≡ decode w .shape .faultLimit → ⊥) → (count : ℕ) → count ≡ length (historyIn (decode w) (take n bytes))
-              → Plans (fileStep (decode w) bytes n day code .answer) w bytes n (ahead h o 0 (count + 1))
+          pub file-accepted : (faultsHeld (decode w) ≡ decode w .shape .faultLimit → ⊥) → (count : ℕ) → count ≡ length (historyIn (decode w) (take n bytes))
+              → Plans (fileStep (decode w) bytes n day code .answer) w bytes n (acceptedPlan h o 0 (count + 1))
           unfolding fileStep
-          file-ahead k count l =
-              plan-ahead q bytes n v f 0 (count + 1) (rw (v, u, one, f .place-is, l, ne-eqb (faultsHeld (decode w)) (decode w .shape .faultLimit) k))
+          file-accepted k count l =
+              plan-accepted q bytes n v f 0 (count + 1) (rw (v, u, one, f .place-is, l, ne-eqb (faultsHeld (decode w)) (decode w .shape .faultLimit) k))
 
         module _ (room count : ℕ) (l : count ≡ length (historyIn (decode w) (take n bytes))) where
-          pub pairs-small : room < 2 * count → PlansFor (showStep (decode w) bytes n) room w bytes n (refusal h 10 (o .place) count)
+          pub pairs-small : room < 2 * count → PlansFor (showStep (decode w) bytes n) room w bytes n (refusedPlan h 10 (o .place) count)
           unfolding showStep
           pairs-small b =
               record { with-room = λ given k. plan-refused q bytes n 9 (o .place) count (rw (v, one, f .place-is, l, lt-ltb (length given) (2 * length (historyIn (decode w) (take n bytes))) (omega arith))) }
 
-          pub pairs-ahead : 2 * count ≤ room → PlansFor (showStep (decode w) bytes n) room w bytes n (ahead h o 0 count)
+          pub pairs-accepted : 2 * count ≤ room → PlansFor (showStep (decode w) bytes n) room w bytes n (acceptedPlan h o 0 count)
           unfolding showStep
-          pairs-ahead b =
-              record { with-room = λ given k. plan-ahead q bytes n v f 0 count (rw (v, one, f .place-is, l, le-ltb (length given) (2 * length (historyIn (decode w) (take n bytes))) (omega arith))) }
+          pairs-accepted b =
+              record { with-room = λ given k. plan-accepted q bytes n v f 0 count (rw (v, one, f .place-is, l, le-ltb (length given) (2 * length (historyIn (decode w) (take n bytes))) (omega arith))) }
 
 -- Withdraw by the plan of Show
 module _ (s : Store) (bytes : List ℕ) (n : ℕ) (room : List ℕ) where
@@ -247,10 +247,10 @@ module _ (w : List ℕ) (e : sound w ≡ true) (bytes : List ℕ) (n room : ℕ)
   withdraw-refused z =
       record { with-room = λ given l. let q = p .with-room given l in rw (same-refused (decode w) bytes n given (λ k. z (q .answer .number-is ∙ k))) q }
 
-  pub withdraw-ahead : r .number ≡ 0 → (scan : ℕ) → scan ≡ shrinkScan (decode w) (r .bucket)
+  pub withdraw-accepted : r .number ≡ 0 → (scan : ℕ) → scan ≡ shrinkScan (decode w) (r .bucket)
       → PlansFor (withdrawStep (decode w) bytes n) room w bytes n
       (record { number = 0; comparisons = r .comparisons; scanned = scan; faults = r .faults; bucket = r .bucket; cell = r .cell; prev = r .prev; header = r .header })
-  withdraw-ahead z scan k = record { with-room = λ given l. go given (p .with-room given l) }
+  withdraw-accepted z scan k = record { with-room = λ given l. go given (p .with-room given l) }
     where
       go : (given : List ℕ) → Plans (showStep (decode w) bytes n given .answer) w bytes n r → Plans (withdrawStep (decode w) bytes n given .answer) w bytes n
           (record { number = 0; comparisons = r .comparisons; scanned = scan; faults = r .faults; bucket = r .bucket; cell = r .cell; prev = r .prev; header = r .header })

@@ -10,7 +10,7 @@ use lib.Dec.{eqb}
 use lib.ListN.{length, take, drop}
 use lib.Seq.{length-take-le, take-all}
 use borrow.Author.Tests.{eq-eqb, ne-eqb}
-use Rattle.model.specs.Lists.{between, all, from}
+use Rattle.model.specs.Lists.{between, all}
 use Rattle.model.specs.Serial.{mostBytes, allowed, serialOk, validSerial}
 use Rattle.model.proofs.Lists.{between-is, all-from}
 use Rattle.store.proofs.Rows.{and-rest, and-fails}

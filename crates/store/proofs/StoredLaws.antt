@@ -22,7 +22,7 @@ use Rattle.model.proofs.Rep.{Rep, rep-front, size-top}
 use Rattle.model.proofs.Decode.{head-faults, segment-at, cards-at, read-chain}
 use Rattle.model.proofs.Shapes.{in-card}
 use Rattle.model.proofs.Split.{ats-cards}
-use Rattle.store.specs.declared.cells.Header.{Header}
+use Rattle.store.specs.declared.header.Header.{Header}
 use Rattle.store.specs.Cells.{shapeIn, Read}
 use Rattle.store.specs.Search.{Ends, faultsFrom}
 use Rattle.model.specs.Shape.{cardWidth}

@@ -12,7 +12,7 @@ use Rattle.model.specs.Layout.{maxpAt, pAt}
 use Rattle.model.specs.Layout.{segmentsAt}
 use Rattle.model.specs.Meaning.{bucketWord, bucketCells}
 use Rattle.model.specs.Words.{linkAt, openWords, closeWords, partWords, splitWords, joinWords}
-use Rattle.store.specs.declared.cells.Header.{Header}
+use Rattle.store.specs.declared.header.Header.{Header}
 use Rattle.store.specs.Cells.{shapeIn, Read}
 use Rattle.store.specs.Table.{MayJoin, lastFrom, lastOf}
 use Rattle.store.proofs.AlongLaws.{last-inside}

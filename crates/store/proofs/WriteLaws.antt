@@ -16,7 +16,7 @@ use Rattle.model.specs.Shape.{Shape, cardWidth}
 use Rattle.model.specs.Layout.{heldAt, faultsHeldAt, freeAt, freeFaultsAt, toNext, toFirst, toLast, toCount, segmentsAt, faultWidth, faultsAt, cellAt, packed, cardWord, faultWord}
 use Rattle.model.specs.Serial.{validSerial}
 use Rattle.model.specs.Words.{cardAt, faultAt, linkAt, newWords, placeWords, fileWords, giveWords, removeWords}
-use Rattle.store.specs.declared.cells.Header.{Header}
+use Rattle.store.specs.declared.header.Header.{Header}
 use Rattle.store.specs.Cells.{shapeIn, Sized, packedAll}
 use Rattle.store.proofs.FindLaws.{valid-length, valid-packed}
 

@@ -13,8 +13,8 @@ use Rattle.model.specs.Shape.{segmentSize, Shape, topOf, cardWidth, faultsEver,
 use Rattle.model.specs.Serial.{validSerial, validFault}
 use Rattle.model.specs.Layout.{maxpAt, pAt, toNext, toLength, toSerial, toDay, toCode, directoryAt, segmentsAt, faultWidth, cardsAt, faultsAt, lengthFor, shapeOk, shapeOf, cardWord, faultWord, packed, bytesOf}
 use Rattle.model.specs.Calls.{Terms}
-use Rattle.store.specs.declared.front.Shape as told
-use Rattle.store.specs.declared.cells.Header.{Header}
+use Rattle.store.specs.declared.layout.Shape as told
+use Rattle.store.specs.declared.header.Header.{Header}
 use Rattle.store.specs.declared.cells.Chain.{Chain}
 use Rattle.store.specs.declared.cells.Chain.the-variants.{Free, Bucket, History}
 

@@ -1,16 +1,16 @@
 -- The checker as a function of the words and the marks, in the order in which the code goes.
 use mathlib.Core.Path.{_≡_}
-use mathlib.Core.Bool.{Bool, true, false, cond, _&&_, _||_}
+use mathlib.Core.Bool.{Bool, true, false, cond, _&&_}
 use mathlib.Core.List.{List, map}
 use Prim.Native.Nat.{ℕ, _+_, _-_, _*_, _≤_}
 use lib.Dec.{eqb, leb, ltb}
 use lib.ListN.{length, drop, getD}
-use Rattle.rules.specs.Table.{least, stateOk}
+use Rattle.rules.specs.Table.{stateOk, loadFits}
 use Rattle.model.specs.Lists.{all, from}
 use Rattle.model.specs.Shape.{Shape, segmentSize, entries, topOf, need}
 use Rattle.model.specs.Layout.{maxpAt, pAt, heldAt, faultsHeldAt, freeAt, freeFaultsAt, directoryOffsetAt, segmentsOffsetAt, cardsOffsetAt, faultsOffsetAt, wholeLengthAt, boundsAt, ruleAt, toNext, toFirst, toLast, toCount, directoryAt, segmentsAt, cardsAt, faultsAt, lengthFor, boundsWord, ruleWord, shapeOk, shapeOf, cardWord}
 use Rattle.store.specs.Cells.{shapeIn, Read, cellWord, limitOf, cellFits}
-use Rattle.store.specs.declared.cells.Header.{Header}
+use Rattle.store.specs.declared.header.Header.{Header}
 use Rattle.store.specs.declared.cells.Chain.{Chain}
 use Rattle.store.specs.declared.cells.Chain.the-variants.{Free, Bucket, History}
 use Rattle.store.specs.Walk.{Out, Start, Tot, walkOf, walksFrom}
@@ -30,10 +30,6 @@ offsetsFit w =
     eqb (getD w directoryOffsetAt 0) directoryAt && (eqb (getD w segmentsOffsetAt 0) (segmentsAt (shapeOf w))
     && (eqb (getD w cardsOffsetAt 0) (cardsAt (shapeOf w)) && endsFit (shapeOf w) w))
 
--- the load of the cards that word 5 says are held
-unfoldable pub loadFits : Shape → ℕ → ℕ → Bool
-loadFits sh n b = (leb n (sh .upper * b) || leb (topOf sh) b) && (eqb b least || leb (sh .lower * b) n)
-
 -- the directory word of segment k with b buckets, where the segments begin at `segments`
 unfoldable pub entryFor : ℕ → ℕ → ℕ → ℕ
 entryFor segments b k = cond (ltb (segmentSize * k) b) (segments + segmentSize * k) 0
@@ -45,9 +41,9 @@ directoryFits sh w b = all (λ k. eqb (getD w (directoryAt + k) 0) (entryFor (se
 unfoldable pub restFits : Shape → List ℕ → ℕ → Bool
 restFits sh w b = all (λ j. eqb (getD w (segmentsAt sh + j) 0) 0) (from b (topOf sh - b))
 
--- the load, the directory and the bucket words past b buckets
+-- the load of the cards that word 5 says are held, the directory and the bucket words past b buckets
 abbrev pub tableFits : Shape → List ℕ → ℕ → Bool
-tableFits sh w b = loadFits sh (getD w heldAt 0) b && (directoryFits sh w b && restFits sh w b)
+tableFits sh w b = loadFits (topOf sh) (sh .upper) (sh .lower) (getD w heldAt 0) b && (directoryFits sh w b && restFits sh w b)
 
 -- all words before the cells but the chains' first cells
 unfoldable pub frontFits : List ℕ → Bool

@@ -4,7 +4,7 @@ use mathlib.Core.List.{List}
 use Prim.Native.Nat.{ℕ}
 use Rattle.model.specs.Layout.{encode}
 use Rattle.model.specs.Calls.{Answer, Outcome, Step, Opened, admission, swept}
-use Rattle.store.specs.declared.Answer as given
+use Rattle.store.specs.declared.answer.Answer as given
 
 -- number, comparisons, cards scanned and faults are those of an answer
 pub record Gives (a : Answer) (r : given.Answer) : Type 0 where
@@ -14,8 +14,8 @@ pub record Gives (a : Answer) (r : given.Answer) : Type 0 where
   pub faults-are : r .faults ≡ a .faults
 
 -- the answer of a call that is refused before it looks at the serial
-abbrev pub turned : ℕ → given.Answer
-turned k = record { number = k; comparisons = 0; scanned = 0; faults = 0 }
+abbrev pub refusedAnswer : ℕ → given.Answer
+refusedAnswer k = record { number = k; comparisons = 0; scanned = 0; faults = 0 }
 
 -- what every call asks first: its number, and the scratch afterwards
 pub record Admits (w scratch : List ℕ) (number : ℕ) (left : List ℕ) : Type 0 where

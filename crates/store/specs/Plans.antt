@@ -14,8 +14,8 @@ use Rattle.model.specs.Layout.{first, last, encode, decode}
 use Rattle.model.specs.Calls.{Answer, Step, written, fileStep}
 use Rattle.store.specs.Cells.{Read}
 use Rattle.store.specs.Leaves.{Gives}
-use Rattle.store.specs.declared.Answer as given
-use Rattle.store.specs.declared.cells.Header.{Header}
+use Rattle.store.specs.declared.answer.Answer as given
+use Rattle.store.specs.declared.header.Header.{Header}
 use Rattle.store.specs.declared.plans.Plan.{Plan}
 use Rattle.store.specs.declared.search.Spot.{Spot}
 
@@ -28,11 +28,11 @@ unfoldable pub shrinkScan : Store → ℕ → ℕ
 shrinkScan s b = cond (contracts (s .shape .lower) (held s - 1) (size s)) (length (bucket s (size s - 1)) - cond (eqb b (size s - 1)) 1 0) 0
 
 -- a plan that refuses, with no place; and one that goes ahead at a spot
-abbrev pub refusal : Header → ℕ → ℕ → ℕ → Plan
-refusal h number place faults = record { number = number; comparisons = place; scanned = 0; faults = faults; bucket = 0; cell = 0; prev = 0; header = h }
+abbrev pub refusedPlan : Header → ℕ → ℕ → ℕ → Plan
+refusedPlan h number place faults = record { number = number; comparisons = place; scanned = 0; faults = faults; bucket = 0; cell = 0; prev = 0; header = h }
 
-abbrev pub ahead : Header → Spot → ℕ → ℕ → Plan
-ahead h o scanned faults = record { number = 0; comparisons = o .place; scanned = scanned; faults = faults; bucket = o .bucket; cell = o .cell; prev = o .prev; header = h }
+abbrev pub acceptedPlan : Header → Spot → ℕ → ℕ → Plan
+acceptedPlan h o scanned faults = record { number = 0; comparisons = o .place; scanned = scanned; faults = faults; bucket = o .bucket; cell = o .cell; prev = o .prev; header = h }
 
 -- the answer that a plan has
 abbrev pub answered : Plan → given.Answer

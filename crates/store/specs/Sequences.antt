@@ -8,7 +8,7 @@ use lib.Dec.{eqb}
 use Rattle.model.specs.Calls.{Terms, openCall}
 use Rattle.model.specs.Runs.{Call, Call.opening, Call.acting, outcome, Event, Event.opened, Event.answered, Tell}
 use Rattle.store.specs.Leaves.{Opens, Leaves}
-use Rattle.store.specs.declared.Answer as given
+use Rattle.store.specs.declared.answer.Answer as given
 
 -- all that a call gives and leaves; Open gives a number and leaves words, and has no more to say
 pub record Given : Type 0 where

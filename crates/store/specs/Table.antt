@@ -9,7 +9,7 @@ use Rattle.model.specs.Layout.{last, follow, fair, encode, decode}
 use Rattle.model.specs.Meaning.{nextCard, bucketWord, bucketCells}
 use Rattle.store.specs.Cells.{shapeIn, Read}
 use Rattle.store.specs.Search.{Ends}
-use Rattle.store.specs.declared.cells.Header.{Header}
+use Rattle.store.specs.declared.header.Header.{Header}
 
 -- one bucket more: there is room for it, and the chain of bucket p comes to its end
 pub record MaySplit (w : List ℕ) (h : Header) : Type 0 where

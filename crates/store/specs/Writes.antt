@@ -7,7 +7,7 @@ use Rattle.model.specs.Layout.{heldAt, faultsHeldAt, freeAt, freeFaultsAt, toFi
 use Rattle.model.specs.Meaning.{nextFault}
 use Rattle.store.specs.Cells.{shapeIn, Sized}
 use Rattle.store.specs.Search.{Ends}
-use Rattle.store.specs.declared.cells.Header.{Header}
+use Rattle.store.specs.declared.header.Header.{Header}
 
 -- a new card: there is a free cell, and i is a cell of the chain of bucket b or 0
 pub record MayPlace (w : List ℕ) (h : Header) (b i : ℕ) : Type 0 where

@@ -3,56 +3,19 @@ ghost use mathlib.Core.Path.{_≡_};
 ghost use mathlib.Core.Bool.{cond};
 ghost use Prim.Native.Nat.{_≤_, _<_};
 ghost use lib.Dec.{eqb};
-ghost use lib.ListN.{length, getD};
 ghost use Rattle.model.specs.Layout.{faultWidth, cardWord, faultWord};
 ghost use Rattle.model.specs.Shape.{cardWidth};
 ghost use Rattle.store.specs.Cells.{shapeIn, Sized, Read, limitOf, widthOf, cellWord, sameKey, metFirst, bytesAt, freeFits, faultFits, cardFits, Suits, cellFits};
+use crate::header;
+use crate::header::Header;
 use crate::layout;
 use crate::serial;
-
-// What a store keeps for life (format, limits, load bounds), where its parts begin, how many buckets it can have and how many words a card
-// cell has, and its state: read once.
-pub struct Header {
-    pub format: u32,
-    pub cards: u32,
-    pub faults: u32,
-    pub upper: u32,
-    pub lower: u32,
-    pub top: u32,
-    pub segments: usize,
-    pub base: usize,
-    pub width: usize,
-    pub behind: usize,
-    pub maxp: u32,
-    pub p: u32,
-}
 
 // Which chain a cell stands in: the free one of its part, that of a bucket, or a history.
 pub enum Chain {
     Free,
     Bucket(u32),
     History,
-}
-
-pub fn word(w: &[u32], at: usize) -> u32
-    requires { ⌜ at < length (now w) ⌝ }
-    ensures { λ r. ⌜ r ≡ getD (now (w .entry)) at 0 ⌝ }
-{
-    w[at]
-}
-
-// The same as a number to index by.
-pub fn wide_word(w: &[u32], at: usize) -> usize
-    requires { ⌜ at < length (now w) ⌝ }
-    ensures { λ r. ⌜ r ≡ getD (now (w .entry)) at 0 ⌝ }
-{
-    wide(w[at])
-}
-
-fn wide(x: u32) -> usize
-    ensures { λ r. ⌜ r ≡ x ⌝ }
-{
-    x as usize
 }
 
 // Word k of card cell i, read in the words from the cards on: the compiler then keeps one address for all k, and adds k where it reads.
@@ -114,7 +77,7 @@ fn free_fits(w: &[u32], h: Header, faults: bool, i: u32) -> bool
     let at = start + width * ((i - 1) as usize);
     let mut k: usize = 1;
     while k < width {
-        if word(w, at + k) != 0 {
+        if header::word(w, at + k) != 0 {
             return false;
         }
         k += 1;
@@ -173,7 +136,7 @@ fn met_first(w: &[u32], h: Header, first: u32, i: u32) -> bool
         if j == i {
             return true;
         }
-        if !serial::within(1, c, j) {
+        if !layout::within(1, c, j) {
             return false;
         }
         if same_key(w, h, j, i) {
@@ -211,7 +174,7 @@ fn card_fits(w: &[u32], h: Header, b: u32, i: u32) -> bool
     if rules::reader_address(code, h.maxp, h.p) != b {
         return false;
     }
-    met_first(w, h, word(w, h.segments + b as usize), i)
+    met_first(w, h, header::word(w, h.segments + b as usize), i)
 }
 
 // What cell i has to be, by the chain that it stands in.

@@ -6,7 +6,8 @@ ghost use Rattle.model.specs.Layout.{encode, decode, sound};
 ghost use Rattle.model.specs.Calls.{enterStep};
 ghost use Rattle.store.specs.Leaves.{Does};
 ghost use Rattle.store.specs.Plans.{Plans};
-use crate::Answer;
+use crate::answer::Answer;
+use crate::layout;
 use crate::plans;
 use crate::plans::Plan;
 use crate::table;
@@ -18,8 +19,9 @@ pub fn make_enter(w: &mut [u32], serial: [u8; 16], len: usize, t: Plan)
     ensures { λ _. ⌜ now (w .exit) ≡ encode (enterStep (decode (now (w .entry))) serial len .store) ⌝ }
 {
     let h = t.header;
+    let n = w[layout::HELD_AT] + 1;
     writes::place(w, h, t.bucket, t.prev, serial, len);
-    table::grow(w, h);
+    table::grow(w, h, n);
 }
 
 // Enter on a store known to be sound.

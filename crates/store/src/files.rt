@@ -6,7 +6,7 @@ ghost use Rattle.model.specs.Layout.{decode, sound};
 ghost use Rattle.model.specs.Calls.{fileStep};
 ghost use Rattle.store.specs.Leaves.{Does};
 ghost use Rattle.store.specs.Plans.{fileWith, Ready, Follows};
-use crate::Answer;
+use crate::answer::Answer;
 use crate::plans;
 use crate::plans::Plan;
 use crate::writes;

@@ -9,21 +9,20 @@ ghost use Rattle.model.specs.Shape.{cardWidth};
 ghost use Rattle.model.specs.Layout.{directoryAt, segmentsAt, cardsAt, faultsAt, header, directory, shapeOk, lengthFor, encode};
 ghost use Rattle.store.specs.Cells.{shapeBy};
 ghost use Rattle.store.specs.Fresh.{behind, leading, cellsTo};
-use crate::front;
-use crate::front::Shape;
 use crate::layout;
+use crate::layout::Shape;
 
 // Words 0 to 15 of a fresh store.
 fn fresh_header(s: Shape) -> [u32; layout::HEADER]
     requires { ⌜ shapeOk (shapeBy s) ≡ true ⌝ }
     ensures { λ r. ⌜ r ≡ header (fresh (shapeBy s)) ⌝ }
 {
-    let segments = front::segments_at(s);
-    let base = front::cards_at(s);
-    let behind = front::faults_at(s);
-    let end = front::length_for(s);
-    let bounds = front::bounds_word(s);
-    let rule = front::rule_word(s);
+    let segments = layout::segments_at(s);
+    let base = layout::cards_at(s);
+    let behind = layout::faults_at(s);
+    let end = layout::length_for(s);
+    let bounds = layout::bounds_word(s);
+    let rule = layout::rule_word(s);
     [
         s.format,
         s.cards,
@@ -104,7 +103,7 @@ fn fill_head(part: &mut [u32], s: Shape)
     ensures { λ _. ⌜ now (part .exit) ≡ header (fresh (shapeBy s)) ++ directory (fresh (shapeBy s)) ⌝ }
 {
     let row = fresh_header(s);
-    let segments = front::segments_at(s) as u32;
+    let segments = layout::segments_at(s) as u32;
     put_row(&mut part[0..layout::DIRECTORY_AT], row);
     put_first(&mut part[layout::DIRECTORY_AT..], segments);
 }
@@ -134,9 +133,9 @@ pub fn fill(words: &mut [u32], s: Shape)
     requires { ⌜ (shapeOk (shapeBy s) ≡ true) × (length (now words) ≡ lengthFor (shapeBy s)) ⌝ }
     ensures { λ _. ⌜ now (words .exit) ≡ encode (fresh (shapeBy s)) ⌝ }
 {
-    let segments = front::segments_at(s);
-    let base = front::cards_at(s);
-    let behind = front::faults_at(s);
-    let width = front::card_width(s);
+    let segments = layout::segments_at(s);
+    let base = layout::cards_at(s);
+    let behind = layout::faults_at(s);
+    let width = layout::card_width(s);
     fill_parts(words, s, segments, base, behind, width);
 }

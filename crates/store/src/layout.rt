@@ -1,4 +1,10 @@
-// Layout: counts and offsets. Each number of it has its name here, once.
+// Layout: counts, offsets, and the lengths and limits of a shape. Each number of it has its name here, once.
+ghost use mathlib.Core.Path.{_≡_};
+ghost use Rattle.model.specs.Lists.{between};
+ghost use Rattle.model.specs.Shape.{topOf, cardWidth, mostCards, mostFaults, need};
+ghost use Rattle.model.specs.Layout.{segmentsAt, cardsAt, faultsAt, lengthFor, limitsOk, formatOk, boundsWord, ruleWord, shapeOk, shapeOf};
+ghost use Rattle.model.specs.Calls.{shapeFor};
+ghost use Rattle.store.specs.Cells.{shapeBy, asked};
 
 // The card limit C is 1 to 1,024; the fault limit F 1 to 2,048.
 pub const MOST_CARDS: u32 = 1024;
@@ -99,3 +105,141 @@ pub const TO_COUNT: usize = 8;
 pub const TO_DAY: usize = 1;
 
 pub const TO_CODE: usize = 2;
+
+// What a store keeps for life: format, limits and load bounds. The functions of it alone know the formats.
+pub struct Shape {
+    pub format: u32,
+    pub cards: u32,
+    pub faults: u32,
+    pub upper: u32,
+    pub lower: u32,
+}
+
+// The shape that Open makes.
+pub fn shape_for(cards: u32, faults: u32) -> Shape
+    ensures { λ r. ⌜ shapeBy r ≡ shapeFor (asked cards faults) ⌝ }
+{
+    Shape {
+        format: FORMAT,
+        cards,
+        faults,
+        upper: FIRST_UPPER,
+        lower: FIRST_LOWER,
+    }
+}
+
+// A number from lo to hi, as a limit is tested.
+pub fn within(lo: u32, hi: u32, x: u32) -> bool
+    ensures { λ r. ⌜ r ≡ between lo hi x ⌝ }
+{
+    if lo <= x { x <= hi } else { false }
+}
+
+// Format 1 has the bounds 4 and 2.
+fn format_ok(s: Shape) -> bool
+    ensures { λ r. ⌜ r ≡ formatOk (shapeBy s) ⌝ }
+{
+    if s.format != FORMAT {
+        return false;
+    }
+    if s.upper != FIRST_UPPER {
+        return false;
+    }
+    s.lower == FIRST_LOWER
+}
+
+// The highest limits.
+fn most_cards(s: Shape) -> u32
+    ensures { λ r. ⌜ r ≡ mostCards (shapeBy s) ⌝ }
+{
+    MOST_CARDS
+}
+
+fn most_faults(s: Shape) -> u32
+    ensures { λ r. ⌜ r ≡ mostFaults (shapeBy s) ⌝ }
+{
+    MOST_FAULTS
+}
+
+// C and F are 1 to the highest of the format.
+pub fn limits_ok(s: Shape) -> bool
+    ensures { λ r. ⌜ r ≡ limitsOk (shapeBy s) ⌝ }
+{
+    let c = s.cards;
+    let f = s.faults;
+    if !within(1, most_cards(s), c) {
+        return false;
+    }
+    within(1, most_faults(s), f)
+}
+
+// The bytes of scratch that the checker takes for these words, whatever they hold.
+pub fn need(words: &[u32]) -> usize
+    ensures { λ r. ⌜ r ≡ need (shapeOf (now (words .entry))) ⌝ }
+{
+    NEED
+}
+
+// The shapes that there are.
+pub fn shape_ok(s: Shape) -> bool
+    ensures { λ r. ⌜ r ≡ shapeOk (shapeBy s) ⌝ }
+{
+    if !format_ok(s) {
+        return false;
+    }
+    limits_ok(s)
+}
+
+// The most buckets, and the words of a card cell.
+pub fn top_of(s: Shape) -> u32
+    ensures { λ r. ⌜ r ≡ topOf (shapeBy s) ⌝ }
+{
+    TOP
+}
+
+pub fn card_width(s: Shape) -> usize
+    ensures { λ r. ⌜ r ≡ cardWidth (shapeBy s) ⌝ }
+{
+    CARD_WIDTH
+}
+
+// Where the segments, the card cells and the fault cells begin, and the whole length.
+pub fn segments_at(s: Shape) -> usize
+    ensures { λ r. ⌜ r ≡ segmentsAt (shapeBy s) ⌝ }
+{
+    SEGMENTS_AT
+}
+
+pub fn cards_at(s: Shape) -> usize
+    ensures { λ r. ⌜ r ≡ cardsAt (shapeBy s) ⌝ }
+{
+    CARDS_AT
+}
+
+pub fn faults_at(s: Shape) -> usize
+    ensures { λ r. ⌜ r ≡ faultsAt (shapeBy s) ⌝ }
+{
+    let base = cards_at(s);
+    let width = card_width(s);
+    base + width * (s.cards as usize)
+}
+
+pub fn length_for(s: Shape) -> usize
+    ensures { λ r. ⌜ r ≡ lengthFor (shapeBy s) ⌝ }
+{
+    let behind = faults_at(s);
+    behind + FAULT_WIDTH * (s.faults as usize)
+}
+
+// Words 14 and 15.
+pub fn bounds_word(s: Shape) -> u32
+    ensures { λ r. ⌜ r ≡ boundsWord (shapeBy s) ⌝ }
+{
+    0
+}
+
+pub fn rule_word(s: Shape) -> u32
+    ensures { λ r. ⌜ r ≡ ruleWord (shapeBy s) ⌝ }
+{
+    0
+}

@@ -8,48 +8,64 @@ ghost use Rattle.model.specs.Layout.{shapeOf, sound};
 ghost use Rattle.model.specs.Calls.{cleaned, openCall};
 ghost use Rattle.model.specs.Runs.{Act, outcome};
 ghost use Rattle.store.specs.Cells.{asked};
-ghost use Rattle.store.specs.Leaves.{Leaves, Opens, Admits, turned};
+ghost use Rattle.store.specs.Leaves.{Leaves, Opens, Admits};
 
-mod cells;
-pub mod enters;
-pub mod files;
-mod fresh;
-mod front;
-pub mod layout;
-mod marks;
-pub mod numbers;
-mod parts;
-pub mod plans;
-mod search;
-mod serial;
-pub mod shows;
-mod table;
-mod walks;
-pub mod withdraws;
-mod writes;
+mod answer; // answer.rt: what a call gives
+mod cells; // cells.rt: words of cells, and what a cell has to be by itself
+mod enters; // enters.rt: Enter on a sound store
+mod files; // files.rt: File on a sound store
+mod fresh; // fresh.rt: the words of a fresh store
+mod front; // front.rt: the checker on the words before the cells
+mod header; // header.rt: the header, read once
+mod layout; // layout.rt: every number of the layout; lengths, offsets and limits of a shape
+mod marks; // marks.rt: which cells were met, a bit each
+pub mod numbers; // numbers.rt: the numbers of refusals
+mod parts; // parts.rt: the checker on the cards and on the faults
+mod plans; // plans.rt: a call's whole answer before a word is changed
+mod search; // search.rt: the search of a chain for a serial
+mod serial; // serial.rt: serials and faults, valid or not, and serials as words
+mod shows; // shows.rt: Show on a sound store
+mod table; // table.rt: split and contraction
+mod walks; // walks.rt: walks of chains over marks
+mod withdraws; // withdraws.rt: Withdraw on a sound store
+mod writes; // writes.rt: every write into a sound store
 
-pub use front::need;
-pub use layout::NEED;
+pub use answer::Answer;
+pub use layout::need;
 pub use marks::clear;
 
-// What each of the four calls gives.
-pub struct Answer {
-    pub number: u32,
-    pub comparisons: u32,
-    pub scanned: u32,
-    pub faults: u32,
-}
+// What a caller sizes its buffers by.
+pub use layout::CARD_WIDTH;
+pub use layout::CARDS_AT;
+pub use layout::FAULT_WIDTH;
+pub use layout::MOST_CARDS;
+pub use layout::MOST_FAULTS;
+pub use layout::MOST_WORDS;
+pub use layout::NEED;
+
+// A call on a store known to be sound, in two steps: its plan, and what the plan says.
+pub use enters::make_enter;
+pub use files::make_file;
+pub use plans::Plan;
+pub use plans::buckets;
+pub use plans::plan_enter;
+pub use plans::plan_file;
+pub use plans::plan_show;
+pub use plans::plan_withdraw;
+pub use plans::refuse_early;
+pub use shows::put_history;
+pub use withdraws::make_withdraw;
 
 // Sets a fresh store for C cards and F faults, whatever the words held. Gives 1 where C or F is out of range and 2 where the
 // length is wrong, and then every word stays; else 0.
 pub fn open(words: &mut [u32], cards: u32, faults: u32) -> u32
     ensures { λ r. ⌜ Opens (openCall (now (words .entry)) (asked cards faults)) r (now (words .exit)) ⌝ }
 {
-    let s = front::shape_for(cards, faults);
-    if !front::limits_ok(s) {
+    let s = layout::shape_for(cards, faults);
+    if !layout::limits_ok(s) {
         return numbers::BAD_LIMITS;
     }
-    if words.len() != front::length_for(s) {
+    if words.len() != layout::length_for(s) {
         return numbers::BAD_LENGTH;
     }
     fresh::fill(words, s);
@@ -62,7 +78,7 @@ pub fn check(words: &[u32], scratch: &mut [u8]) -> bool
     requires { ⌜ need (shapeOf (now words)) ≤ length (now scratch) ⌝ }
     ensures { λ r. ⌜ (r ≡ sound (now (words .entry))) × (now (scratch .exit) ≡ cleaned (need (shapeOf (now (words .entry)))) (now (scratch .entry))) ⌝ }
 {
-    let n = front::need(words);
+    let n = layout::need(words);
     marks::clear(scratch, n);
     let ok = parts::all_fit(words, scratch);
     marks::clear(scratch, n);
@@ -74,7 +90,7 @@ pub fn check(words: &[u32], scratch: &mut [u8]) -> bool
 pub fn admit(words: &[u32], scratch: &mut [u8]) -> u32
     ensures { λ r. ⌜ Admits (now (words .entry)) (now (scratch .entry)) r (now (scratch .exit)) ⌝ }
 {
-    if scratch.len() < front::need(words) {
+    if scratch.len() < layout::need(words) {
         return numbers::SHORT_SCRATCH;
     }
     if !check(words, scratch) {
@@ -83,25 +99,13 @@ pub fn admit(words: &[u32], scratch: &mut [u8]) -> u32
     0
 }
 
-// The answer of a call that is refused before it looks at the serial.
-fn turned_away(number: u32) -> Answer
-    ensures { λ r. ⌜ r ≡ turned number ⌝ }
-{
-    Answer {
-        number,
-        comparisons: 0,
-        scanned: 0,
-        faults: 0,
-    }
-}
-
 // Enters a card with this serial, at the end of its bucket's chain.
 pub fn enter(words: &mut [u32], scratch: &mut [u8], serial: [u8; 16], len: usize) -> Answer
     ensures { λ r. ⌜ Leaves (outcome (now (words .entry)) (now (scratch .entry)) (Act.enter serial len)) r (now (words .exit)) [] (now (scratch .exit)) ⌝ }
 {
     let k = admit(words, scratch);
     if k != 0 {
-        return turned_away(k);
+        return answer::refuse(k);
     }
     enters::enter_in(words, serial, len)
 }
@@ -119,7 +123,7 @@ pub fn file(
 {
     let k = admit(words, scratch);
     if k != 0 {
-        return turned_away(k);
+        return answer::refuse(k);
     }
     files::file_in(words, serial, len, day, code)
 }
@@ -136,7 +140,7 @@ pub fn show(
 {
     let k = admit(words, scratch);
     if k != 0 {
-        return turned_away(k);
+        return answer::refuse(k);
     }
     shows::show_in(words, serial, len, room)
 }
@@ -153,7 +157,7 @@ pub fn withdraw(
 {
     let k = admit(words, scratch);
     if k != 0 {
-        return turned_away(k);
+        return answer::refuse(k);
     }
     withdraws::withdraw_in(words, serial, len, room)
 }

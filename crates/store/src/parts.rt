@@ -8,10 +8,10 @@ ghost use Rattle.model.specs.Shape.{need};
 ghost use Rattle.store.specs.Cells.{shapeIn, Read, cellFits};
 ghost use Rattle.store.specs.Walk.{walkOf, Did};
 ghost use Rattle.store.specs.Checker.{Asks, nextIn, heldWord, partOf, DidPart, DidCheck};
-use crate::cells;
 use crate::cells::Chain;
-use crate::cells::Header;
 use crate::front;
+use crate::header;
+use crate::header::Header;
 use crate::layout;
 use crate::walks;
 use crate::walks::Walked;
@@ -43,9 +43,9 @@ fn free_word(w: &[u32], faults: bool) -> u32
     ensures { λ r. ⌜ r ≡ getD (now (w .entry)) (cond faults freeFaultsAt freeAt) 0 ⌝ }
 {
     if faults {
-        cells::word(w, layout::FREE_FAULTS_AT)
+        header::word(w, layout::FREE_FAULTS_AT)
     } else {
-        cells::word(w, layout::FREE_AT)
+        header::word(w, layout::FREE_AT)
     }
 }
 
@@ -54,9 +54,9 @@ fn held_word(w: &[u32], faults: bool) -> u32
     ensures { λ r. ⌜ r ≡ heldWord (now (w .entry)) faults ⌝ }
 {
     if faults {
-        cells::word(w, layout::FAULTS_HELD_AT)
+        header::word(w, layout::FAULTS_HELD_AT)
     } else {
-        cells::word(w, layout::HELD_AT)
+        header::word(w, layout::HELD_AT)
     }
 }
 
@@ -106,7 +106,7 @@ pub fn all_fit(w: &[u32], scratch: &mut [u8]) -> bool
     if !front::front_fits(w) {
         return false;
     }
-    let h = front::header(w);
+    let h = header::read(w);
     if !part_fits(w, scratch, h, false) {
         return false;
     }

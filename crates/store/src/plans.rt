@@ -12,10 +12,11 @@ ghost use Rattle.model.specs.Calls.{gives, enterStep, fileStep, showStep, withd
 ghost use Rattle.store.specs.Cells.{shapeIn, Sized, Read};
 ghost use Rattle.store.specs.Search.{Ends};
 ghost use Rattle.store.specs.Leaves.{Gives};
-ghost use Rattle.store.specs.Plans.{growScan, shrinkScan, refusal, ahead, answered, Plans, PlansFor};
-use crate::Answer;
+ghost use Rattle.store.specs.Plans.{growScan, shrinkScan, refusedPlan, acceptedPlan, answered, Plans, PlansFor};
+use crate::answer::Answer;
 use crate::cells;
-use crate::cells::Header;
+use crate::header;
+use crate::header::Header;
 use crate::layout;
 use crate::numbers;
 use crate::search;
@@ -36,8 +37,8 @@ pub struct Plan {
 }
 
 // A call that is refused.
-fn refused(h: Header, number: u32, comparisons: u32, faults: u32) -> Plan
-    ensures { λ r. ⌜ r ≡ refusal h number comparisons faults ⌝ }
+fn refuse(h: Header, number: u32, comparisons: u32, faults: u32) -> Plan
+    ensures { λ r. ⌜ r ≡ refusedPlan h number comparisons faults ⌝ }
 {
     Plan {
         number,
@@ -52,17 +53,17 @@ fn refused(h: Header, number: u32, comparisons: u32, faults: u32) -> Plan
 }
 
 // A call that is refused before its serial is looked for, on a store known to be sound.
-pub fn turned_down(w: &[u32], number: u32) -> Plan
+pub fn refuse_early(w: &[u32], number: u32) -> Plan
     requires { ⌜ sound (now w) ≡ true ⌝ }
     ensures { λ r. ⌜ Gives (gives number 0 0 0) (answered r) × Read (now (w .entry)) (r .header) ⌝ }
 {
-    let h = search::header_of(w);
-    refused(h, number, 0, 0)
+    let h = header::header_of(w);
+    refuse(h, number, 0, 0)
 }
 
 // A call that goes ahead where its serial was looked for.
-fn accepted(h: Header, s: Spot, scanned: u32, faults: u32) -> Plan
-    ensures { λ r. ⌜ r ≡ ahead h s scanned faults ⌝ }
+fn accept(h: Header, s: Spot, scanned: u32, faults: u32) -> Plan
+    ensures { λ r. ⌜ r ≡ acceptedPlan h s scanned faults ⌝ }
 {
     Plan {
         number: 0,
@@ -93,7 +94,7 @@ pub fn buckets(w: &[u32]) -> u32
     requires { ⌜ sound (now w) ≡ true ⌝ }
     ensures { λ r. ⌜ r ≡ size (decode (now (w .entry))) ⌝ }
 {
-    let h = search::header_of(w);
+    let h = header::header_of(w);
     h.maxp + h.p
 }
 
@@ -116,7 +117,7 @@ fn bucket_len(w: &[u32], h: Header, b: u32) -> u32
     requires { ⌜ (sound (now w) ≡ true) × Read (now w) h × (b < h .maxp + h .p) ⌝ }
     ensures { λ r. ⌜ r ≡ length (bucket (decode (now (w .entry))) b) ⌝ }
 {
-    let first = cells::word(w, h.segments + b as usize);
+    let first = header::word(w, h.segments + b as usize);
     chain_len(w, h, first)
 }
 
@@ -125,7 +126,7 @@ fn grow_scan(w: &[u32], h: Header, b: u32) -> u32
     requires { ⌜ (sound (now w) ≡ true) × Read (now w) h ⌝ }
     ensures { λ r. ⌜ r ≡ growScan (decode (now (w .entry))) b ⌝ }
 {
-    let n = cells::word(w, layout::HELD_AT);
+    let n = header::word(w, layout::HELD_AT);
     if !rules::must_split(h.top, h.upper, n + 1, h.maxp + h.p) {
         return 0;
     }
@@ -145,7 +146,7 @@ fn shrink_scan(w: &[u32], h: Header, b: u32) -> u32
     requires { ⌜ (sound (now w) ≡ true) × Read (now w) h ⌝ }
     ensures { λ r. ⌜ r ≡ shrinkScan (decode (now (w .entry))) b ⌝ }
 {
-    let n = cells::word(w, layout::HELD_AT);
+    let n = header::word(w, layout::HELD_AT);
     let size = h.maxp + h.p;
     if !rules::must_contract(h.lower, less(n), size) {
         return 0;
@@ -160,18 +161,18 @@ pub fn plan_enter(w: &[u32], serial: [u8; 16], len: usize) -> Plan
     ensures { λ r. ⌜ Plans (enterStep (decode (now (w .entry))) serial len .answer) (now (w .entry)) serial len r ⌝ }
 {
     if !serial::valid_serial(serial, len) {
-        return turned_down(w, numbers::BAD_SERIAL);
+        return refuse_early(w, numbers::BAD_SERIAL);
     }
     let s = search::find(w, serial, len);
-    let h = search::header_of(w);
+    let h = header::header_of(w);
     if s.held {
-        return refused(h, numbers::ALREADY_HELD, s.place, 0);
+        return refuse(h, numbers::ALREADY_HELD, s.place, 0);
     }
-    if cells::word(w, layout::HELD_AT) == h.cards {
-        return refused(h, numbers::CARDS_FULL, s.place, 0);
+    if header::word(w, layout::HELD_AT) == h.cards {
+        return refuse(h, numbers::CARDS_FULL, s.place, 0);
     }
     let scanned = grow_scan(w, h, s.bucket);
-    accepted(h, s, scanned, 0)
+    accept(h, s, scanned, 0)
 }
 
 // File: 4 for the serial, 5 for day and code, 7 where no card has the serial, 9 where no fault cell is free.
@@ -180,21 +181,21 @@ pub fn plan_file(w: &[u32], serial: [u8; 16], len: usize, day: u32, code: u32) -
     ensures { λ r. ⌜ Plans (fileStep (decode (now (w .entry))) serial len day code .answer) (now (w .entry)) serial len r ⌝ }
 {
     if !serial::valid_serial(serial, len) {
-        return turned_down(w, numbers::BAD_SERIAL);
+        return refuse_early(w, numbers::BAD_SERIAL);
     }
     if !serial::valid_fault(day, code) {
-        return turned_down(w, numbers::BAD_FAULT);
+        return refuse_early(w, numbers::BAD_FAULT);
     }
     let s = search::find(w, serial, len);
-    let h = search::header_of(w);
+    let h = header::header_of(w);
     if !s.held {
-        return refused(h, numbers::NOT_HELD, s.place, 0);
+        return refuse(h, numbers::NOT_HELD, s.place, 0);
     }
-    if cells::word(w, layout::FAULTS_HELD_AT) == h.faults {
-        return refused(h, numbers::FAULTS_FULL, s.place, 0);
+    if header::word(w, layout::FAULTS_HELD_AT) == h.faults {
+        return refuse(h, numbers::FAULTS_FULL, s.place, 0);
     }
     let n = cells::card_word(w, h, s.cell, layout::TO_COUNT);
-    accepted(h, s, 0, n + 1)
+    accept(h, s, 0, n + 1)
 }
 
 // Show and Withdraw of a valid serial: 7 where no card has it, 10 where its pairs do not fit.
@@ -203,15 +204,15 @@ fn plan_pairs(w: &[u32], serial: [u8; 16], len: usize, room: usize) -> Plan
     ensures { λ r. ⌜ PlansFor (showStep (decode (now (w .entry))) serial len) room (now (w .entry)) serial len r ⌝ }
 {
     let s = search::find(w, serial, len);
-    let h = search::header_of(w);
+    let h = header::header_of(w);
     if !s.held {
-        return refused(h, numbers::NOT_HELD, s.place, 0);
+        return refuse(h, numbers::NOT_HELD, s.place, 0);
     }
     let n = cells::card_word(w, h, s.cell, layout::TO_COUNT);
     if room < 2 * (n as usize) {
-        return refused(h, numbers::SHORT_ROOM, s.place, n);
+        return refuse(h, numbers::SHORT_ROOM, s.place, n);
     }
-    accepted(h, s, 0, n)
+    accept(h, s, 0, n)
 }
 
 // Show, for a room of so many words: 4 for the serial, then 7 and 10.
@@ -220,7 +221,7 @@ pub fn plan_show(w: &[u32], serial: [u8; 16], len: usize, room: usize) -> Plan
     ensures { λ r. ⌜ PlansFor (showStep (decode (now (w .entry))) serial len) room (now (w .entry)) serial len r ⌝ }
 {
     if !serial::valid_serial(serial, len) {
-        return turned_down(w, numbers::BAD_SERIAL);
+        return refuse_early(w, numbers::BAD_SERIAL);
     }
     plan_pairs(w, serial, len, room)
 }
@@ -231,7 +232,7 @@ pub fn plan_withdraw(w: &[u32], serial: [u8; 16], len: usize, room: usize) -> Pl
     ensures { λ r. ⌜ PlansFor (withdrawStep (decode (now (w .entry))) serial len) room (now (w .entry)) serial len r ⌝ }
 {
     if !serial::valid_serial(serial, len) {
-        return turned_down(w, numbers::BAD_SERIAL);
+        return refuse_early(w, numbers::BAD_SERIAL);
     }
     let t = plan_pairs(w, serial, len, room);
     if t.number != 0 {

@@ -6,11 +6,11 @@ ghost use lib.ListN.{take};
 ghost use Rattle.model.specs.Serial.{validSerial};
 ghost use Rattle.model.specs.Layout.{decode, sound};
 ghost use Rattle.model.specs.Meaning.{nextCard};
-ghost use Rattle.store.specs.Cells.{shapeIn, Sized, Read};
+ghost use Rattle.store.specs.Cells.{shapeIn, Sized};
 ghost use Rattle.store.specs.Search.{Ends, hasKey, searched, Finds};
 use crate::cells;
-use crate::cells::Header;
-use crate::front;
+use crate::header;
+use crate::header::Header;
 use crate::layout;
 use crate::serial;
 
@@ -79,24 +79,16 @@ pub fn search(w: &[u32], h: Header, first: u32, len: u32, key: [u32; layout::SER
     }
 }
 
-// The header of a store known to be sound, read once.
-pub fn header_of(w: &[u32]) -> Header
-    requires { ⌜ sound (now w) ≡ true ⌝ }
-    ensures { λ r. ⌜ Read (now (w .entry)) r ⌝ }
-{
-    front::header(w)
-}
-
 // Where the card of a serial stands in a sound store: its bucket by the serial's code, and the search of that bucket's chain. It reads what
 // it needs of the header itself: handed over by value, all twelve numbers would be laid out in memory for each search.
 pub fn find(w: &[u32], serial: [u8; 16], len: usize) -> Spot
     requires { ⌜ (sound (now w) ≡ true) × (validSerial serial len ≡ true) ⌝ }
     ensures { λ r. ⌜ Finds (decode (now (w .entry))) (take len serial) r ⌝ }
 {
-    let h = header_of(w);
+    let h = header::header_of(w);
     let code = rules::serial_code(serial, len);
     let b = rules::reader_address(code, h.maxp, h.p);
-    let first = cells::word(w, h.segments + b as usize);
+    let first = header::word(w, h.segments + b as usize);
     let key = serial::pack(serial);
     let r = search(w, h, first, len as u32, key);
     Spot {

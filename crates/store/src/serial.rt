@@ -2,18 +2,11 @@
 ghost use mathlib.Core.Path.{_≡_};
 ghost use Prim.Native.Nat.{_≤_, _/_, _%_, _^_};
 ghost use lib.Dec.{eqb};
-ghost use Rattle.model.specs.Lists.{between, all};
+ghost use Rattle.model.specs.Lists.{all};
 ghost use Rattle.model.specs.Serial.{allowed, validSerial, validFault};
 ghost use Rattle.model.specs.Layout.{packed};
 ghost use Rattle.store.specs.Cells.{packedAll, unpackedAll, fourBytes};
 use crate::layout;
-
-// A number from lo to hi.
-pub fn within(lo: u32, hi: u32, x: u32) -> bool
-    ensures { λ r. ⌜ r ≡ between lo hi x ⌝ }
-{
-    if lo <= x { x <= hi } else { false }
-}
 
 // The allowed bytes stand between the hyphen and Z. Bit k of ALLOWED is set where byte HYPHEN + k is one of them: the hyphen itself, the
 // digits 48 to 57, the upper-case letters 65 to 90.
@@ -41,10 +34,10 @@ pub fn is_allowed(b: u8) -> bool
 pub fn valid_fault(day: u32, code: u32) -> bool
     ensures { λ r. ⌜ r ≡ validFault day code ⌝ }
 {
-    if !within(1, 65535, day) {
+    if !layout::within(1, 65535, day) {
         return false;
     }
-    within(1, 9999, code)
+    layout::within(1, 9999, code)
 }
 
 // Whether all bytes are allowed.

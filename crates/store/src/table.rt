@@ -1,17 +1,18 @@
 // The table with one bucket more and one less: Larson's split of a chain in two, and the contraction that joins the two again.
 ghost use mathlib.Core.Path.{_≡_};
 ghost use Prim.Native.Nat.{_+_, _≤_, _<_};
-ghost use lib.ListN.{length, set};
-ghost use Rattle.rules.specs.Table.{top, highMaxp, highP, lowMaxp, lowP};
+ghost use lib.ListN.{length, getD, set};
+ghost use Rattle.rules.specs.Table.{top, lowP};
 ghost use Rattle.model.specs.Model.{grown, shrunk};
-ghost use Rattle.model.specs.Layout.{maxpAt, pAt, directoryAt, encode, decode};
+ghost use Rattle.model.specs.Layout.{heldAt, maxpAt, pAt, directoryAt, encode, decode};
 ghost use Rattle.model.specs.Meaning.{nextCard, bucketWord};
 ghost use Rattle.model.specs.Words.{openWords, closeWords, movesAt, partWords, splitWords, joinWords};
 ghost use Rattle.store.specs.Cells.{shapeIn, Sized, Read};
 ghost use Rattle.store.specs.Search.{Ends};
 ghost use Rattle.store.specs.Table.{MaySplit, MayJoin, lastFrom, lastOf, Fairly};
 use crate::cells;
-use crate::cells::Header;
+use crate::header;
+use crate::header::Header;
 use crate::layout;
 use crate::writes;
 
@@ -38,7 +39,7 @@ fn part(w: &mut [u32], h: Header)
     let p = h.p;
     let segments = h.segments;
     let n = maxp + p;
-    let mut x = cells::word(w, segments + p as usize);
+    let mut x = header::word(w, segments + p as usize);
     let mut k: u32 = 0;
     let mut g: u32 = 0;
     while x != 0 {
@@ -76,35 +77,6 @@ fn close_bucket(w: &mut [u32], h: Header, n: u32)
     }
 }
 
-// The state with one bucket more: p grows by 1; if p = maxp, maxp doubles and p is 0.
-fn high_maxp(maxp: u32, p: u32) -> u32
-    requires { ⌜ maxp + p < top ⌝ }
-    ensures { λ r. ⌜ r ≡ highMaxp maxp p ⌝ }
-{
-    if p + 1 == maxp { 2 * maxp } else { maxp }
-}
-
-fn high_p(maxp: u32, p: u32) -> u32
-    requires { ⌜ maxp + p < top ⌝ }
-    ensures { λ r. ⌜ r ≡ highP maxp p ⌝ }
-{
-    if p + 1 == maxp { 0 } else { p + 1 }
-}
-
-// The state with one bucket less: p falls by 1; if it was 0, maxp halves and p is the new maxp - 1.
-fn low_maxp(maxp: u32, p: u32) -> u32
-    ensures { λ r. ⌜ r ≡ lowMaxp maxp p ⌝ }
-{
-    if p == 0 { maxp / 2 } else { maxp }
-}
-
-fn low_p(maxp: u32, p: u32) -> u32
-    requires { ⌜ 2 ≤ maxp ⌝ }
-    ensures { λ r. ⌜ r ≡ lowP maxp p ⌝ }
-{
-    if p == 0 { maxp / 2 - 1 } else { p - 1 }
-}
-
 // maxp and p, words 3 and 4 of the header.
 fn set_state(w: &mut [u32], maxp: u32, p: u32)
     requires { ⌜ directoryAt ≤ length (now w) ⌝ }
@@ -123,7 +95,7 @@ pub fn split(w: &mut [u32], h: Header)
     let p = h.p;
     part(w, h);
     open_bucket(w, h, maxp + p);
-    set_state(w, high_maxp(maxp, p), high_p(maxp, p));
+    set_state(w, rules::high_maxp(maxp, p), rules::high_p(maxp, p));
 }
 
 // The last cell of the chain from cell `first` on, 0 for none.
@@ -149,22 +121,21 @@ pub fn join(w: &mut [u32], h: Header)
     let maxp = h.maxp;
     let p = h.p;
     let segments = h.segments;
-    let b = low_p(maxp, p);
+    let b = rules::low_p(maxp, p);
     let going = maxp + p - 1;
-    let k = last_from(w, h, cells::word(w, segments + b as usize));
-    let first = cells::word(w, segments + going as usize);
+    let k = last_from(w, h, header::word(w, segments + b as usize));
+    let first = header::word(w, segments + going as usize);
     writes::link(w, h, b, k, first);
     writes::put_bucket(w, h, going, 0);
     close_bucket(w, h, going);
-    set_state(w, low_maxp(maxp, p), b);
+    set_state(w, rules::low_maxp(maxp, p), b);
 }
 
-// After an accepted entry: one bucket more if there are more than `upper` cards a bucket.
-pub fn grow(w: &mut [u32], h: Header)
-    requires { ⌜ Fairly (now w) × Read (now w) h ⌝ }
+// After an accepted entry, with n cards held: one bucket more if they are more than `upper` a bucket.
+pub fn grow(w: &mut [u32], h: Header, n: u32)
+    requires { ⌜ Fairly (now w) × Read (now w) h × (n ≡ getD (now w) heldAt 0) ⌝ }
     ensures { λ _. ⌜ now (w .exit) ≡ encode (grown (decode (now (w .entry)))) ⌝ }
 {
-    let n = cells::word(w, layout::HELD_AT);
     if rules::must_split(h.top, h.upper, n, h.maxp + h.p) {
         split(w, h);
     }
@@ -175,7 +146,7 @@ pub fn shrink(w: &mut [u32], h: Header)
     requires { ⌜ Fairly (now w) × Read (now w) h ⌝ }
     ensures { λ _. ⌜ now (w .exit) ≡ encode (shrunk (decode (now (w .entry)))) ⌝ }
 {
-    let n = cells::word(w, layout::HELD_AT);
+    let n = header::word(w, layout::HELD_AT);
     if rules::must_contract(h.lower, n, h.maxp + h.p) {
         join(w, h);
     }

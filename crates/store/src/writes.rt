@@ -17,7 +17,8 @@ ghost use Rattle.store.specs.Cells.{shapeIn, Sized};
 ghost use Rattle.store.specs.Search.{Ends};
 ghost use Rattle.store.specs.Writes.{MayPlace, MayFile, MayRemove};
 use crate::cells;
-use crate::cells::Header;
+use crate::header;
+use crate::header::Header;
 use crate::layout;
 use crate::serial;
 
@@ -146,9 +147,9 @@ pub fn place(w: &mut [u32], h: Header, b: u32, last: u32, serial: [u8; 16], len:
     requires { ⌜ MayPlace (now w) h b last × (validSerial serial len ≡ true) ⌝ }
     ensures { λ _. ⌜ now (w .exit) ≡ placeWords (shapeIn h) (now (w .entry)) b last (take len serial) ⌝ }
 {
-    let new = cells::word(w, layout::FREE_AT);
+    let new = header::word(w, layout::FREE_AT);
     let next = cells::card_word(w, h, new, layout::TO_NEXT);
-    let held = cells::word(w, layout::HELD_AT) + 1;
+    let held = header::word(w, layout::HELD_AT) + 1;
     let n = len as u32;
     let key = serial::pack(serial);
     put_word(w, layout::FREE_AT, next);
@@ -184,11 +185,11 @@ pub fn file_at(w: &mut [u32], h: Header, cell: u32, day: u32, code: u32)
     requires { ⌜ MayFile (now w) h cell ⌝ }
     ensures { λ _. ⌜ now (w .exit) ≡ fileWords (shapeIn h) (now (w .entry)) cell day code ⌝ }
 {
-    let new = cells::word(w, layout::FREE_FAULTS_AT);
+    let new = header::word(w, layout::FREE_FAULTS_AT);
     let next = cells::fault_word(w, h, new, layout::TO_NEXT);
     let last = cells::card_word(w, h, cell, layout::TO_LAST);
     let count = cells::card_word(w, h, cell, layout::TO_COUNT) + 1;
-    let held = cells::word(w, layout::FAULTS_HELD_AT) + 1;
+    let held = header::word(w, layout::FAULTS_HELD_AT) + 1;
     put_word(w, layout::FREE_FAULTS_AT, next);
     put_fault_cell(w, h, new, [0, day, code]);
     link_fault(w, h, cell, last, new);
@@ -217,7 +218,7 @@ fn give_back(w: &mut [u32], h: Header, first: u32, last: u32)
     if first == 0 {
         return;
     }
-    let free = cells::word(w, layout::FREE_FAULTS_AT);
+    let free = header::word(w, layout::FREE_FAULTS_AT);
     clear_history(w, h, first);
     put_fault(w, h, last, layout::TO_NEXT, free);
     put_word(w, layout::FREE_FAULTS_AT, first);
@@ -251,9 +252,9 @@ pub fn remove_at(w: &mut [u32], h: Header, b: u32, prev: u32, cell: u32)
     let first = cells::card_word(w, h, cell, layout::TO_FIRST);
     let last = cells::card_word(w, h, cell, layout::TO_LAST);
     let count = cells::card_word(w, h, cell, layout::TO_COUNT);
-    let free = cells::word(w, layout::FREE_AT);
-    let cards = cells::word(w, layout::HELD_AT) - 1;
-    let faults = cells::word(w, layout::FAULTS_HELD_AT) - count;
+    let free = header::word(w, layout::FREE_AT);
+    let cards = header::word(w, layout::HELD_AT) - 1;
+    let faults = header::word(w, layout::FAULTS_HELD_AT) - count;
     give_back(w, h, first, last);
     link(w, h, b, prev, next);
     free_card(w, h, cell, free);

@@ -1,11 +1,11 @@
 -- `withdraw` meets its contract: what the one door turns away is refused by its number, and on sound words the call is that on a store known to be sound.
 use borrow.Author.Needs.{needs}
-use Rattle.store.proofs.CallLaws.{sound-words, call-turned, call-does}
+use Rattle.store.proofs.CallLaws.{sound-words, call-refused, call-does}
 use Rattle.store.proofs.withdraw.Statement.{statement}
 use Rattle.store.proofs.withdraw.Tie as tie
 
 returns : tie.Need-returns
-returns c = call-turned _ _ (c .before .before .before .before .admit .ensures) _ _ (c .before .if1 .taken) (c .turned-away .ensures)
+returns c = call-refused _ _ (c .before .before .before .before .admit .ensures) _ _ (c .before .if1 .taken) (c .refuse .ensures)
 
 withdraw-in-requires : tie.Need-withdraw-in-requires
 withdraw-in-requires c κs = let e = c .before .before in sound-words _ _ (e .before .before .before .admit .ensures) (e .if1 .left)

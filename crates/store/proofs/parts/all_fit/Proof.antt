@@ -18,22 +18,22 @@ front c = sym (c .before .front-fits .ensures) ∙ not-false (c .before .front-f
 
 part-fits-requires : tie.Need-part-fits-requires
 part-fits-requires c κs =
-    let r = c .before .header .ensures in
+    let r = c .before .read .ensures in
     (r, omega (arith, front-room _ (front (c .before .before)), r .maxp, r .state, ap topOf (r .shape), r .sized .top), omega (arith, ap need (r .shape), c .before .before .before .before .before .before .pre))
 
 returns-2 : tie.Need-returns-2
 returns-2 c =
-    let r = c .before .before .before .before .before .header .ensures in
+    let r = c .before .before .before .before .before .read .ensures in
     cards-stop _ _ (front (c .before .before .before .before .before .before)) (c .before .before .before .before .before .before .before .before .before .before .pre) r (c .before .before .before .part-fits .ensures) (not-true (c .before .before .before .part-fits .result) (c .if2 .taken))
 
 part-fits-requires-2 : tie.Need-part-fits-requires-2
 part-fits-requires-2 c κs =
-    let r = c .before .before .before .before .before .before .header .ensures in
+    let r = c .before .before .before .before .before .before .read .ensures in
     (r, omega (arith, front-room _ (front (c .before .before .before .before .before .before .before)), r .maxp, r .state, ap topOf (r .shape), r .sized .top), omega (arith, ap need (r .shape), c .before .before .before .before .before .before .before .before .before .before .before .pre, c .before .before .before .before .part-fits .kept .1 .0))
 
 returns-3 : tie.Need-returns-3
 returns-3 c =
-    let r = c .before .before .before .before .before .before .before .before .before .header .ensures in
+    let r = c .before .before .before .before .before .before .before .before .before .read .ensures in
     faults-end _ _ (front (c .before .before .before .before .before .before .before .before .before .before)) (c .before .before .before .before .before .before .before .before .before .before .before .before .before .before .pre) r (c .before .before .before .before .before .before .before .part-fits .ensures) (not-false (c .before .before .before .before .before .before .before .part-fits .result) (c .before .before .before .before .if2 .left)) (c .before .before .part-fits2 .ensures)
 
 pub all-fit-spec : {M : Type 1} → statement M

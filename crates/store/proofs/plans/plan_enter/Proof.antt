@@ -6,7 +6,7 @@ use borrow.Author.Tests.{not-true, not-false}
 use Rattle.model.specs.Serial.{validSerial}
 use Rattle.model.specs.Shape.{Shape}
 use Rattle.store.proofs.StoredLaws.{read-store}
-use Rattle.store.proofs.PlanLaws.{held-word, enter-invalid, enter-held, enter-full, enter-ahead}
+use Rattle.store.proofs.PlanLaws.{held-word, enter-invalid, enter-held, enter-full, enter-accepted}
 use Rattle.store.proofs.plans.plan_enter.Statement.{statement}
 use Rattle.store.proofs.plans.plan_enter.Tie as tie
 
@@ -16,7 +16,7 @@ start c = c .before .before
 returns : tie.Need-returns
 returns c =
     let i = c .before .before in
-    enter-invalid _ _ _ (c .turned-down .ensures) (sym (i .valid-serial .ensures) ∙ not-true (i .valid-serial .result) (c .before .if1 .taken))
+    enter-invalid _ _ _ (c .refuse-early .ensures) (sym (i .valid-serial .ensures) ∙ not-true (i .valid-serial .result) (c .before .if1 .taken))
 
 -- the serial is valid past the first test
 valid : (c : tie.Else1) → validSerial (start (c .before) .args .serial) (start (c .before) .args .len) ≡ true
@@ -30,7 +30,7 @@ returns-2 c =
     let r = c .before .before in
     let f = r .before in
     let i = f .before in
-    rw (c .refused .ensures) (enter-held _ (start (i .before) .pre) (r .header-of .ensures) _ _ (valid i) (f .find .ensures) (c .before .if2 .taken))
+    rw (c .refuse .ensures) (enter-held _ (start (i .before) .pre) (r .header-of .ensures) _ _ (valid i) (f .find .ensures) (c .before .if2 .taken))
 
 returns-3 : tie.Need-returns-3
 returns-3 c =
@@ -38,7 +38,7 @@ returns-3 c =
     let f = g .before .before .before in
     let i = f .before in
     let r = g .before .before .header-of .ensures in
-    rw (c .refused2 .ensures)
+    rw (c .refuse2 .ensures)
     (enter-full _ (start (i .before) .pre) r _ _ (valid i) (f .find .ensures) (g .before .if2 .left)
     (sym (held-word (start (i .before) .pre) r) ∙ sym (g .word .ensures) ∙ c .before .if3 .taken ∙ sym (ap (λ (sh : Shape). sh .limit) (read-store r .0))))
 
@@ -48,8 +48,8 @@ returns-4 c =
     let f = g .before .before .before in
     let i = f .before in
     let r = g .before .before .header-of .ensures in
-    rw (c .accepted .ensures, c .before .grow-scan .ensures)
-    (enter-ahead _ (start (i .before) .pre) r _ _ (valid i) (f .find .ensures) (g .before .if2 .left)
+    rw (c .accept .ensures, c .before .grow-scan .ensures)
+    (enter-accepted _ (start (i .before) .pre) r _ _ (valid i) (f .find .ensures) (g .before .if2 .left)
     (λ k. c .before .before .if3 .left (g .word .ensures ∙ held-word (start (i .before) .pre) r ∙ k ∙ ap (λ (sh : Shape). sh .limit) (read-store r .0))))
 
 pub plan-enter-spec : {M : Type 1} → statement M

@@ -13,7 +13,7 @@ use Rattle.model.proofs.Sound.{sound-is}
 use Rattle.model.specs.Shape.{Shape}
 use Rattle.store.proofs.StoredLaws.{read-store}
 use Rattle.store.proofs.FindLaws.{HeldCell, is-held, held-cell}
-use Rattle.store.proofs.PlanLaws.{filed-word, held-history, file-invalid, file-bad, file-missing, file-full, file-ahead}
+use Rattle.store.proofs.PlanLaws.{filed-word, held-history, file-invalid, file-bad, file-missing, file-full, file-accepted}
 use Rattle.store.proofs.plans.plan_file.Statement.{statement}
 use Rattle.store.proofs.plans.plan_file.Tie as tie
 
@@ -23,7 +23,7 @@ start c = c .before .before
 returns : tie.Need-returns
 returns c =
     let i = c .before .before in
-    file-invalid _ _ _ (c .turned-down .ensures) (sym (i .valid-serial .ensures) ∙ not-true (i .valid-serial .result) (c .before .if1 .taken)) _ _
+    file-invalid _ _ _ (c .refuse-early .ensures) (sym (i .valid-serial .ensures) ∙ not-true (i .valid-serial .result) (c .before .if1 .taken)) _ _
 
 -- the serial is valid past the first test, day and code past the second
 valid : (c : tie.Else1) → validSerial (start (c .before) .args .serial) (start (c .before) .args .len) ≡ true
@@ -32,7 +32,7 @@ valid c = sym (c .before .valid-serial .ensures) ∙ not-false (c .before .valid
 returns-2 : tie.Need-returns-2
 returns-2 c =
     let j = c .before .before in
-    file-bad _ _ _ (c .turned-down2 .ensures) (valid (j .before)) _ _ (sym (j .valid-fault .ensures) ∙ not-true (j .valid-fault .result) (c .before .if2 .taken))
+    file-bad _ _ _ (c .refuse-early2 .ensures) (valid (j .before)) _ _ (sym (j .valid-fault .ensures) ∙ not-true (j .valid-fault .result) (c .before .if2 .taken))
 
 abbrev begun : tie.Else2 → tie.Start
 begun c = start (c .before .before .before)
@@ -48,7 +48,7 @@ returns-3 c =
     let r = c .before .before .before in
     let f = r .before in
     let j = f .before in
-    rw (c .refused .ensures)
+    rw (c .refuse .ensures)
     (file-missing _ (begun j .pre) (r .header-of .ensures) _ _ (valid (j .before .before)) (f .find .ensures) (not-true (f .find .result .held) (c .before .if3 .taken)) _ _ (valid-pair j))
 
 -- past the third test the header is read, and the card is held
@@ -71,7 +71,7 @@ returns-4 c =
     let f = looked (g .before) in
     let j = f .before in
     let r = read (g .before) .header-of .ensures in
-    rw (c .refused2 .ensures)
+    rw (c .refuse2 .ensures)
     (file-full _ (begun j .pre) r _ _ (valid (j .before .before)) (f .find .ensures) (held (g .before)) _ _ (valid-pair j)
     (sym (filed-word (begun j .pre) r) ∙ sym (g .word .ensures) ∙ c .before .if4 .taken ∙ sym (ap (λ (sh : Shape). sh .faultLimit) (read-store r .0))))
 
@@ -88,8 +88,8 @@ count : (c : tie.After-card-word) → c .card-word .result
     ≡ length (historyIn (decode (begun (looked (last-test c) .before) .args .w .now)) (take (begun (looked (last-test c) .before) .args .len) (begun (looked (last-test c) .before) .args .serial)))
 count c = c .card-word .ensures ∙ cell (last-test c) .count-word
 
-add-accepted : tie.Need-add-accepted
-add-accepted c =
+add-accept : tie.Need-add-accept
+add-accept c =
     let f = looked (last-test c) in
     omega (arith, count c, held-history (begun (f .before) .pre) (read (last-test c) .header-of .ensures) (cell (last-test c)))
 
@@ -99,8 +99,8 @@ returns-5 c =
     let f = looked (g .before) in
     let j = f .before in
     let r = read (g .before) .header-of .ensures in
-    rw (c .accepted .ensures)
-    (file-ahead _ (begun j .pre) r _ _ (valid (j .before .before)) (f .find .ensures) (held (g .before)) _ _ (valid-pair j)
+    rw (c .accept .ensures)
+    (file-accepted _ (begun j .pre) r _ _ (valid (j .before .before)) (f .find .ensures) (held (g .before)) _ _ (valid-pair j)
     (λ k. c .before .before .if4 .left (g .word .ensures ∙ filed-word (begun j .pre) r ∙ k ∙ ap (λ (sh : Shape). sh .faultLimit) (read-store r .0))) _ (count (c .before)))
 
 pub plan-file-spec : {M : Type 1} → statement M
@@ -121,6 +121,6 @@ plan-file-spec =
     (λ c κs. search needs)
     returns-4
     card-word-requires
-    add-accepted
+    add-accept
     (λ c κs. search needs)
     returns-5)

@@ -9,7 +9,7 @@ use Rattle.model.specs.Layout.{decode}
 use Rattle.model.specs.Model.{historyIn}
 use Rattle.model.proofs.Sound.{sound-is}
 use Rattle.store.proofs.FindLaws.{HeldCell, is-held, held-cell}
-use Rattle.store.proofs.PlanLaws.{pairs-missing, pairs-small, pairs-ahead}
+use Rattle.store.proofs.PlanLaws.{pairs-missing, pairs-small, pairs-accepted}
 use Rattle.store.proofs.plans.plan_pairs.Statement.{statement}
 use Rattle.store.proofs.plans.plan_pairs.Tie as tie
 
@@ -21,7 +21,7 @@ returns c =
     let r = c .before .before .before in
     let f = r .before in
     let p = start f .pre in
-    rw (c .refused .ensures) (pairs-missing _ (p .0) (r .header-of .ensures) _ _ (p .1) (f .find .ensures) (not-true (f .find .result .held) (c .before .if1 .taken)) _)
+    rw (c .refuse .ensures) (pairs-missing _ (p .0) (r .header-of .ensures) _ _ (p .1) (f .find .ensures) (not-true (f .find .result .held) (c .before .if1 .taken)) _)
 
 -- past the first test the header is read, and the card is held
 abbrev read : tie.Else1 → tie.After-header-of
@@ -49,13 +49,13 @@ returns-2 : tie.Need-returns-2
 returns-2 c =
     let g = c .before .before in
     let p = start (looked (g .before)) .pre in
-    rw (c .refused2 .ensures) (pairs-small _ (p .0) (read (g .before) .header-of .ensures) _ _ (p .1) (looked (g .before) .find .ensures) (held (g .before)) _ _ (count g) (c .before .if2 .taken))
+    rw (c .refuse2 .ensures) (pairs-small _ (p .0) (read (g .before) .header-of .ensures) _ _ (p .1) (looked (g .before) .find .ensures) (held (g .before)) _ _ (count g) (c .before .if2 .taken))
 
 returns-3 : tie.Need-returns-3
 returns-3 c =
     let g = c .before .before in
     let p = start (looked (g .before)) .pre in
-    rw (c .accepted .ensures) (pairs-ahead _ (p .0) (read (g .before) .header-of .ensures) _ _ (p .1) (looked (g .before) .find .ensures) (held (g .before)) _ _ (count g) (c .before .if2 .left))
+    rw (c .accept .ensures) (pairs-accepted _ (p .0) (read (g .before) .header-of .ensures) _ _ (p .1) (looked (g .before) .find .ensures) (held (g .before)) _ _ (count g) (c .before .if2 .left))
 
 pub plan-pairs-spec : {M : Type 1} → statement M
 plan-pairs-spec =

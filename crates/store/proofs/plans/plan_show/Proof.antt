@@ -9,7 +9,7 @@ use Rattle.store.proofs.plans.plan_show.Tie as tie
 returns : tie.Need-returns
 returns c =
     let i = c .before .before in
-    pairs-invalid _ _ _ (c .turned-down .ensures) (sym (i .valid-serial .ensures) ∙ not-true (i .valid-serial .result) (c .before .if1 .taken)) _
+    pairs-invalid _ _ _ (c .refuse-early .ensures) (sym (i .valid-serial .ensures) ∙ not-true (i .valid-serial .result) (c .before .if1 .taken)) _
 
 plan-pairs-requires : tie.Need-plan-pairs-requires
 plan-pairs-requires c κs =

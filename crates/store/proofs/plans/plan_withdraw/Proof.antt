@@ -2,7 +2,7 @@
 use mathlib.Core.Path.{sym, _∙_}
 use borrow.Author.Needs.{needs}
 use borrow.Author.Tests.{not-true, not-false}
-use Rattle.store.proofs.PlanLaws.{plans-header, withdraw-invalid, withdraw-refused, withdraw-ahead}
+use Rattle.store.proofs.PlanLaws.{plans-header, withdraw-invalid, withdraw-refused, withdraw-accepted}
 use Rattle.store.proofs.plans.plan_withdraw.Statement.{statement}
 use Rattle.store.proofs.plans.plan_withdraw.Tie as tie
 
@@ -12,7 +12,7 @@ start c = c .before .before
 returns : tie.Need-returns
 returns c =
     let i = c .before .before in
-    withdraw-invalid _ _ _ (c .turned-down .ensures) (sym (i .valid-serial .ensures) ∙ not-true (i .valid-serial .result) (c .before .if1 .taken)) _
+    withdraw-invalid _ _ _ (c .refuse-early .ensures) (sym (i .valid-serial .ensures) ∙ not-true (i .valid-serial .result) (c .before .if1 .taken)) _
 
 plan-pairs-requires : tie.Need-plan-pairs-requires
 plan-pairs-requires c κs =
@@ -32,7 +32,7 @@ shrink-scan-requires c κs =
 returns-3 : tie.Need-returns-3
 returns-3 c =
     let q = c .before .before .before .before in
-    withdraw-ahead _ (start (q .before .before) .pre) _ _ _ _ (q .plan-pairs .ensures) (c .before .before .if2 .left) _ (c .shrink-scan .ensures)
+    withdraw-accepted _ (start (q .before .before) .pre) _ _ _ _ (q .plan-pairs .ensures) (c .before .before .if2 .left) _ (c .shrink-scan .ensures)
 
 pub plan-withdraw-spec : {M : Type 1} → statement M
 plan-withdraw-spec =

@@ -1,0 +1,12 @@
+-- `layout::shape_for` meets its contract: format 1, with 4 and 2.
+use mathlib.Core.Path.{refl}
+use Rattle.model.specs.Calls.{shapeFor}
+use Rattle.store.proofs.layout.shape_for.Statement.{statement}
+use Rattle.store.proofs.layout.shape_for.Tie as tie
+
+returns : tie.Need-returns
+unfolding shapeFor
+returns c = refl
+
+pub shape-for-spec : {M : Type 1} → statement M
+shape-for-spec = tie.close (tie.spec returns)
