@@ -41,7 +41,7 @@ rep-fairly {w} {s} r =
     let e = rep-decode w s r in
     record { store = ap fair e ∙ is-fair s (r .fair); words = ap encode e ∙ sym (rep-words w s r) }
 
--- what `front::header` asks
+-- what `header::read` asks
 
 limits-from : (w : List ℕ) (s : Store) → Rep w s → limitsFit w ≡ true
 unfolding limitsFit
