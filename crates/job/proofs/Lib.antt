@@ -1,6 +1,7 @@
 -- Laws that the functions' proofs cite, one theme a file
 pub mod Cursor
 pub mod Numbers
+pub mod ByKind
 pub mod Padded
 pub mod Forms
 pub mod Decimals

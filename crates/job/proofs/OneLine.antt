@@ -13,21 +13,20 @@ use Rattle.rules.proofs.Tests.{by-cases}
 use Rattle.model.specs.Model.{Store}
 use Rattle.model.specs.Layout.{encode, decode, sound}
 use Rattle.model.specs.Calls.{Answer, Step}
-use Rattle.model.specs.Job.{Line, bad, enter, show, withdraw, file, kind, padded, enough, lineOf, stepOf, listed, answerText, counted, Run, runLines, Tally}
+use Rattle.model.specs.Job.{Line, bad, enter, show, withdraw, file, padded, enough, lineOf, stepOf, listed, answerText, counted, Run, runLines, Tally}
 use Rattle.model.specs.Runs as Runs
 use Rattle.model.proofs.Fair.{Good}
 use Rattle.model.proofs.Sound.{good-sound, sound-good}
 use Rattle.model.proofs.Demand3.{good-act}
 use Rattle.model.proofs.Outcomes.{read-back}
-use Rattle.job.specs.Told.{Told, serialIn, dayIn, codeIn}
-use Rattle.job.specs.Turns.{asked, listedBy, turnOf}
+use Rattle.job.specs.Told.{Told, kindIn, serialIn, dayIn, codeIn}
+use Rattle.job.specs.Turns.{askedAs, asked, listedBy, turnOf}
 use Rattle.job.specs.declared.fields.Parsed.{Parsed}
-use Rattle.job.proofs.Asking.{none-listed}
 use Rattle.job.proofs.Putting.{put-front, put-rest}
 
 -- the step of a line is what is told of it, asked
 pub asked-is : (s : Store) (l : Line) (p : Parsed) → Told l p → asked s p ≡ stepOf s l
-unfolding asked stepOf kind serialIn dayIn codeIn
+unfolding asked askedAs stepOf kindIn serialIn dayIn codeIn
 asked-is s bad p t = rw (t .kind-is)
 asked-is s (enter f) p t = rw (t .kind-is, t .serial-is, t .len-is)
 asked-is s (show f) p t = rw (t .kind-is, t .serial-is, t .len-is)
@@ -35,13 +34,13 @@ asked-is s (withdraw f) p t = rw (t .kind-is, t .serial-is, t .len-is)
 asked-is s (file f day code) p t = rw (t .kind-is, t .serial-is, t .len-is, t .day-is, t .code-is)
 
 -- and what its answer lists goes by its kind
-pub listed-by : (l : Line) (a : Answer) → listed l a ≡ listedBy (kind l) (a .number) (a .faults)
-unfolding listed listedBy kind
-listed-by bad a = none-listed (a .number)
-listed-by (enter f) a = none-listed (a .number)
+pub listed-by : (l : Line) (a : Answer) → listed l a ≡ listedBy (kindIn l) (a .number) (a .faults)
+unfolding listed listedBy kindIn
+listed-by bad a = refl
+listed-by (enter f) a = refl
 listed-by (show f) a = refl
 listed-by (withdraw f) a = refl
-listed-by (file f day code) a = none-listed (a .number)
+listed-by (file f day code) a = refl
 
 -- a line leaves a good store
 

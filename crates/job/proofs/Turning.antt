@@ -11,7 +11,7 @@ use borrow.Author.Tests.{lt-ltb, le-ltb}
 use Rattle.model.specs.Model.{size}
 use Rattle.model.specs.Layout.{encode, decode, sound}
 use Rattle.model.specs.Calls.{Step}
-use Rattle.model.specs.Job.{kind, lineOf, stepOf, pairText, listed, answerText}
+use Rattle.model.specs.Job.{lineOf, stepOf, pairText, listed, answerText}
 use Rattle.store.specs.Plans.{Plans}
 use Rattle.store.specs.declared.plans.Plan.{Plan}
 use Rattle.job.specs.Told.{Told}

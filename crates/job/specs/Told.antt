@@ -3,10 +3,19 @@ use mathlib.Core.Path.{_≡_}
 use mathlib.Core.List.{List, []}
 use Prim.Native.Nat.{ℕ}
 use lib.ListN.{length}
-use Rattle.model.specs.Job.{Line, bad, enter, show, withdraw, file, kind, padded}
+use Rattle.model.specs.Job.{Line, bad, enter, show, withdraw, file, padded}
+use Rattle.job.specs.declared.fields.Kind.{Kind}
+use Rattle.job.specs.declared.fields.Kind.the-variants.{Bad, Enter, Withdraw, File, Show}
 use Rattle.job.specs.declared.fields.Parsed.{Parsed}
 
--- the serial field, the day and the code of a line; none and 0 where its kind has none
+-- the kind of a line; its serial field, its day and its code, none and 0 where its kind has none
+unfoldable pub kindIn : Line → Kind
+kindIn bad = Bad
+kindIn (enter f) = Enter
+kindIn (show f) = Show
+kindIn (withdraw f) = Withdraw
+kindIn (file f day code) = File
+
 unfoldable pub serialIn : Line → List ℕ
 serialIn bad = []
 serialIn (enter f) = f
@@ -29,7 +38,7 @@ codeIn (withdraw f) = 0
 codeIn (file f day code) = code
 
 -- what the code holds: a kind, a serial field as sixteen bytes and its length, and two numbers
-pub record Holds (kind : ℕ) (serial : List ℕ) (day code : ℕ) (p : Parsed) : Type 0 where
+pub record Holds (kind : Kind) (serial : List ℕ) (day code : ℕ) (p : Parsed) : Type 0 where
   pub kind-is : p .kind ≡ kind
   pub serial-is : p .serial ≡ padded serial
   pub len-is : p .len ≡ length serial
@@ -38,4 +47,4 @@ pub record Holds (kind : ℕ) (serial : List ℕ) (day code : ℕ) (p : Parsed) 
 
 -- what the code holds of a line is what the line tells
 abbrev pub Told : Line → Parsed → Type 0
-Told l p = Holds (kind l) (serialIn l) (dayIn l) (codeIn l) p
+Told l p = Holds (kindIn l) (serialIn l) (dayIn l) (codeIn l) p

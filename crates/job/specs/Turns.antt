@@ -9,28 +9,37 @@ use lib.Seq.{sets}
 use Rattle.model.specs.Model.{Store}
 use Rattle.model.specs.Shape.{faultsEver}
 use Rattle.model.specs.Layout.{encode, decode}
+use Rattle.model.specs.Numbers.{badLine}
 use Rattle.model.specs.Calls.{Step, refused, stays, enterStep, fileStep, showStep, withdrawStep}
 use Rattle.model.specs.Job.{enough, lineOf, stepOf, pairText, answerText, counted}
 use Rattle.model.specs.Job as Job
 use Rattle.job.specs.Counts.{tallyOf}
+use Rattle.job.specs.declared.fields.Kind.{Kind}
+use Rattle.job.specs.declared.fields.Kind.the-variants.{Bad, Enter, Withdraw, File, Show}
 use Rattle.job.specs.declared.fields.Parsed.{Parsed}
 use Rattle.job.specs.declared.turn.Turned.{Turned}
 
--- what is told of a line, asked of a store
+-- what is told of a line, asked of a store: by its kind
+unfoldable pub askedAs : Kind → Store → Parsed → Step
+askedAs Bad s p = stays (refused badLine) s []
+askedAs Enter s p = enterStep s (p .serial) (p .len)
+askedAs Withdraw s p = withdrawStep s (p .serial) (p .len) enough
+askedAs File s p = fileStep s (p .serial) (p .len) (p .day) (p .code)
+askedAs Show s p = showStep s (p .serial) (p .len) enough
+
 unfoldable pub asked : Store → Parsed → Step
-asked s p =
-    cond (eqb (p .kind) 1) (enterStep s (p .serial) (p .len))
-    (cond (eqb (p .kind) 2) (withdrawStep s (p .serial) (p .len) enough)
-    (cond (eqb (p .kind) 3) (fileStep s (p .serial) (p .len) (p .day) (p .code))
-    (cond (eqb (p .kind) 4) (showStep s (p .serial) (p .len) enough)
-    (stays (refused 12) s []))))
+asked s p = askedAs (p .kind) s p
 
 -- how many pairs an answer of this kind, number and count lists: those of a done show or withdraw
-unfoldable pub listedBy : ℕ → ℕ → ℕ → ℕ
-listedBy kind number faults = cond (eqb number 0) (cond (eqb kind 2) faults (cond (eqb kind 4) faults 0)) 0
+unfoldable pub listedBy : Kind → ℕ → ℕ → ℕ
+listedBy Bad number faults = 0
+listedBy Enter number faults = 0
+listedBy Withdraw number faults = cond (eqb number 0) faults 0
+listedBy File number faults = 0
+listedBy Show number faults = cond (eqb number 0) faults 0
 
 -- the room holds the pairs that the step lists
-pub record Lists (kind : ℕ) (r : Step) (count : ℕ) (room : List ℕ) : Type 0 where
+pub record Lists (kind : Kind) (r : Step) (count : ℕ) (room : List ℕ) : Type 0 where
   pub count-is : count ≡ listedBy kind (r .answer .number) (r .answer .faults)
   pub few : count ≤ faultsEver
   pub text-is : pairText count room ≡ pairText count (r .room)

@@ -9,10 +9,19 @@ ghost use Rattle.job.specs.Told.{Holds, Told};
 use super::lines::field_end;
 use rules::SERIAL;
 
-// What a line tells: its kind (0 not well formed, 1 enter, 2 withdraw, 3 file, 4 show), its serial field as
-// sixteen bytes and its length, and the numbers of a filing. What its kind has not is 0.
+// What a line asks for: bad is one that is not well formed.
+pub enum Kind {
+    Bad,
+    Enter,
+    Withdraw,
+    File,
+    Show,
+}
+
+// What a line tells: its kind, its serial field as sixteen bytes and its length, and the numbers of a filing.
+// What its kind has not is 0.
 pub struct Parsed {
-    pub kind: u32,
+    pub kind: Kind,
     pub serial: [u8; 16],
     pub len: usize,
     pub day: u32,
@@ -104,7 +113,7 @@ fn bad_line() -> Parsed
 {
     let none = [0u8; 16];
     Parsed {
-        kind: 0,
+        kind: Kind::Bad,
         serial: none,
         len: 0,
         day: 0,
@@ -113,7 +122,7 @@ fn bad_line() -> Parsed
 }
 
 // A line of this kind, with its serial field and the numbers of a filing.
-fn filled(kind: u32, serial: &[u8], day: u32, code: u32) -> Parsed
+fn filled(kind: Kind, serial: &[u8], day: u32, code: u32) -> Parsed
     ensures { λ r. ⌜ Holds kind (now (serial .entry)) day code r ⌝ }
 {
     let bytes = sixteen(serial);
@@ -131,9 +140,9 @@ fn serial_line(op: u8, serial: &[u8]) -> Parsed
     ensures { λ r. ⌜ Told (two (op ∷ []) (now (serial .entry))) r ⌝ }
 {
     match op {
-        b'E' => filled(1, serial, 0, 0),
-        b'W' => filled(2, serial, 0, 0),
-        b'S' => filled(4, serial, 0, 0),
+        b'E' => filled(Kind::Enter, serial, 0, 0),
+        b'W' => filled(Kind::Withdraw, serial, 0, 0),
+        b'S' => filled(Kind::Show, serial, 0, 0),
         _ => bad_line(),
     }
 }
@@ -151,7 +160,7 @@ fn fault_line(op: u8, serial: &[u8], day: &[u8], code: &[u8]) -> Parsed
     if !is_number(code) {
         return bad_line();
     }
-    filled(3, serial, number(day), number(code))
+    filled(Kind::File, serial, number(day), number(code))
 }
 
 // A line whose serial is not its last field, with what stands behind the serial: two fields more, or it is bad.

@@ -2,9 +2,9 @@
 // the top instead of passing it. It goes in by value and comes back.
 ghost use mathlib.Core.Path.{_≡_};
 ghost use mathlib.Core.Bool.{_&&_};
-ghost use lib.Dec.{eqb};
 ghost use Rattle.model.specs.Job.{plus, one};
-ghost use Rattle.job.specs.Counts.{tallyOf, countedBy};
+ghost use Rattle.job.specs.Counts.{tallyOf, entering, withdrawing, filing, countedBy};
+use super::fields::Kind;
 
 pub struct Tally {
     pub entries: u64,
@@ -30,21 +30,48 @@ fn one(yes: bool) -> u64
     if yes { 1 } else { 0 }
 }
 
-// 1 for a done line of this kind.
-fn one_of(done: bool, kind: u32, wanted: u32) -> u64
-    ensures { λ r. ⌜ r ≡ one (done && eqb kind wanted) ⌝ }
+// 1 for a line that is done and of the kind that counts.
+fn one_of(done: bool, counts: bool) -> u64
+    ensures { λ r. ⌜ r ≡ one (done && counts) ⌝ }
 {
-    if done { one(kind == wanted) } else { 0 }
+    if done { one(counts) } else { 0 }
+}
+
+fn entering(kind: Kind) -> bool
+    ensures { λ r. ⌜ r ≡ entering kind ⌝ }
+{
+    match kind {
+        Kind::Enter => true,
+        _ => false,
+    }
+}
+
+fn withdrawing(kind: Kind) -> bool
+    ensures { λ r. ⌜ r ≡ withdrawing kind ⌝ }
+{
+    match kind {
+        Kind::Withdraw => true,
+        _ => false,
+    }
+}
+
+fn filing(kind: Kind) -> bool
+    ensures { λ r. ⌜ r ≡ filing kind ⌝ }
+{
+    match kind {
+        Kind::File => true,
+        _ => false,
+    }
 }
 
 // The tally after an answered line: its kind, whether it was done, the buckets before and after it, its comparisons.
-pub fn counted(t: Tally, kind: u32, done: bool, before: u32, after: u32, comparisons: u32) -> Tally
+pub fn counted(t: Tally, kind: Kind, done: bool, before: u32, after: u32, comparisons: u32) -> Tally
     ensures { λ r. ⌜ tallyOf r ≡ countedBy (tallyOf t) kind done before after comparisons ⌝ }
 {
     Tally {
-        entries: plus(t.entries, one_of(done, kind, 1)),
-        withdrawals: plus(t.withdrawals, one_of(done, kind, 2)),
-        filings: plus(t.filings, one_of(done, kind, 3)),
+        entries: plus(t.entries, one_of(done, entering(kind))),
+        withdrawals: plus(t.withdrawals, one_of(done, withdrawing(kind))),
+        filings: plus(t.filings, one_of(done, filing(kind))),
         splits: plus(t.splits, one(before < after)),
         contractions: plus(t.contractions, one(after < before)),
         comparisons: plus(t.comparisons, comparisons as u64),

@@ -11,6 +11,7 @@ ghost use Rattle.job.specs.Counts.{tallyOf};
 ghost use Rattle.job.specs.Text.{Puts, AnswerLong, answerOf};
 ghost use Rattle.job.specs.Turns.{asked, Lists, turnOf, Turns};
 use super::fields;
+use super::fields::Kind;
 use super::fields::Parsed;
 use super::tally;
 use super::tally::Tally;
@@ -41,11 +42,11 @@ fn planned(words: &[u32], p: Parsed) -> Plan
     let kind = p.kind;
     let serial = p.serial;
     match kind {
-        1 => plans::plan_enter(words, serial, p.len),
-        2 => plans::plan_withdraw(words, serial, p.len, ROOM),
-        3 => plans::plan_file(words, serial, p.len, p.day, p.code),
-        4 => plans::plan_show(words, serial, p.len, ROOM),
-        _ => plans::turned_down(words, 12),
+        Kind::Enter => plans::plan_enter(words, serial, p.len),
+        Kind::Withdraw => plans::plan_withdraw(words, serial, p.len, ROOM),
+        Kind::File => plans::plan_file(words, serial, p.len, p.day, p.code),
+        Kind::Show => plans::plan_show(words, serial, p.len, ROOM),
+        Kind::Bad => plans::turned_down(words, 12),
     }
 }
 
@@ -59,7 +60,7 @@ fn listed(words: &[u32], p: Parsed, plan: Plan, room: &mut [u32]) -> u32
     }
     let kind = p.kind;
     match kind {
-        2 | 4 => {
+        Kind::Withdraw | Kind::Show => {
             shows::put_history(words, plan, room);
             plan.faults
         }
@@ -78,9 +79,9 @@ fn made(words: &mut [u32], p: Parsed, plan: Plan)
     let kind = p.kind;
     let serial = p.serial;
     match kind {
-        1 => enters::make_enter(words, serial, p.len, plan),
-        2 => withdraws::make_withdraw(words, plan),
-        3 => files::make_file(words, plan, p.day, p.code),
+        Kind::Enter => enters::make_enter(words, serial, p.len, plan),
+        Kind::Withdraw => withdraws::make_withdraw(words, plan),
+        Kind::File => files::make_file(words, plan, p.day, p.code),
         _ => (),
     }
 }
@@ -130,6 +131,7 @@ pub fn turn(
     ensures { λ r. ⌜ Turns (turnOf (now (words .entry)) (now (line .entry)) (now (out .entry)) at (tallyOf tally)) at r (now (words .exit)) (now (out .exit)) ⌝ }
 {
     let p = fields::parse(line);
+    let kind = p.kind;
     let plan = planned(words, p);
     let count = listed(words, p, plan, room);
     let long = answer_len(plan, count, room);
@@ -149,7 +151,7 @@ pub fn turn(
         end,
         tally: tally::counted(
             tally,
-            p.kind,
+            kind,
             plan.number == 0,
             before,
             after,

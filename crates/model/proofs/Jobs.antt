@@ -19,7 +19,7 @@ use Rattle.model.specs.Layout.{shapeOf, decode, sound}
 use Rattle.model.specs.Calls.{cleaned}
 use Rattle.model.specs.Runs.{Act, perform, run}
 use Rattle.model.specs.Runs as Runs
-use Rattle.model.specs.Job.{linesOf, Line, bad, enter, show, withdraw, file, kind, lineOf, padded, enough, stepOf, answerText, Tally, Run, runLines, started, Finished, turnedAway, jobIf, mostText, job}
+use Rattle.model.specs.Job.{linesOf, Line, bad, enter, show, withdraw, file, lineOf, padded, enough, stepOf, answerText, Tally, Run, runLines, started, Finished, turnedAway, jobIf, mostText, job}
 use Rattle.model.specs.Deeds.{callsOf, saidBy, said}
 use Rattle.model.proofs.Fair.{filings, Good, faults-total}
 use Rattle.model.proofs.Shapes.{few-faults}
@@ -29,6 +29,7 @@ use Rattle.model.proofs.Cases.{faults-fit, enter-cases, file-cases}
 use Rattle.model.proofs.Numbers.{hit, miss, show-numbers, withdraw-numbers, act-numbers}
 use Rattle.model.proofs.Outcomes.{sound-run}
 use Rattle.model.proofs.Deeds.{line-step, Through, lines-run, lines-store, said-at}
+use Rattle.model.proofs.LineForms.{not-bad}
 
 -- the job by its tests, whatever is to be shown of it
 module _ (w scratch text out : List ℕ) (t : Tally) (P : Finished → Type 0) where
@@ -238,18 +239,18 @@ acts : (s : Store) → Good s → (a : Act) (l : Line) → (l ≡ bad → ⊥) �
 acts s g a l some ten = record { formless = miss (act-numbers s g a .2) some; never-10 = ten }
 
 pub line-numbers : (s : Store) → Good s → (l : Line) → LineNumbers l (stepOf s l .answer .number)
-unfolding stepOf kind
+unfolding stepOf
 line-numbers s g bad = record { formless = hit refl refl; never-10 = omega arith }
 line-numbers s g (enter f) =
-    acts s g (Runs.enter (padded f) (length f)) (enter f) (λ e. omega (arith, ap kind e))
+    acts s g (Runs.enter (padded f) (length f)) (enter f) (not-bad (enter f) tt)
     (enter-cases s g (padded f) (length f) (λ r. r .answer .number ≡ 10 → ⊥) (λ v. omega arith) (λ v l. omega arith) (λ v l f. omega arith) (λ v l f. omega arith))
 line-numbers s g (show f) =
-    acts s g (Runs.show (padded f) (length f) enough) (show f) (λ e. omega (arith, ap kind e))
+    acts s g (Runs.show (padded f) (length f) enough) (show f) (not-bad (show f) tt)
     (λ e. omega (arith, show-numbers s (padded f) (length f) enough g .small .0 e .2, enough-long, history-fits s g (take (length f) (padded f))))
 line-numbers s g (withdraw f) =
-    acts s g (Runs.withdraw (padded f) (length f) enough) (withdraw f) (λ e. omega (arith, ap kind e))
+    acts s g (Runs.withdraw (padded f) (length f) enough) (withdraw f) (not-bad (withdraw f) tt)
     (λ e. omega (arith, withdraw-numbers s (padded f) (length f) enough g .small .0 e .2, enough-long, history-fits s g (take (length f) (padded f))))
 line-numbers s g (file f day code) =
-    acts s g (Runs.file (padded f) (length f) day code) (file f day code) (λ e. omega (arith, ap kind e))
+    acts s g (Runs.file (padded f) (length f) day code) (file f day code) (not-bad (file f day code) tt)
     (file-cases s g (padded f) (length f) (λ r. r .answer .number ≡ 10 → ⊥) day code
     (λ v. omega arith) (λ v w. omega arith) (λ v w l. omega arith) (λ v w l f. omega arith) (λ v w l f. omega arith))

@@ -13,7 +13,7 @@ use lib.Seq.{length-take-le, getD-take, getD-append-add, take-take, take-append-
 use borrow.Author.Tests.{ltb-false, le-ltb}
 use Rattle.rules.proofs.Tests.{by-cases, both, all-of}
 use Rattle.model.specs.Lists.{between, all, same}
-use Rattle.model.specs.Job.{fields, isNumber, valueFrom, Line, bad, enter, show, withdraw, file, kind, two, four, fromFields, lineOf, padded}
+use Rattle.model.specs.Job.{fields, isNumber, valueFrom, Line, bad, enter, show, withdraw, file, two, four, fromFields, lineOf, padded}
 use Rattle.model.specs.Serial.{validSerial}
 use Rattle.model.proofs.Lists.{between-is, same-eq, Every, every-imp}
 use Rattle.model.proofs.Walks.{every-all, all-every}
@@ -153,17 +153,27 @@ pub record LineMeans (l : List ℕ) : Type 0 where
   pub files : (s : List ℕ) (day code : ℕ) → (lineOf l ≡ file s day code) ↔ AsksFile s day code l
   pub formless : (lineOf l ≡ bad) ↔ ((m : Line) → Form m l → ⊥)
 
+-- a line that asks for something is not bad
+abbrev pub Some : Line → Type 0
+Some bad = ⊥
+Some (enter s) = Unit {0}
+Some (show s) = Unit {0}
+Some (withdraw s) = Unit {0}
+Some (file s day code) = Unit {0}
+
+pub not-bad : (m : Line) → Some m → m ≡ bad → ⊥
+not-bad m some e = subst Some e some
+
 form-of : (l : List ℕ) (m : Line) → (m ≡ bad → ⊥) → lineOf l ≡ m → Form m l
 form-of l m some e = ⊎-elim (λ b. absurd (some (sym e ∙ b))) (λ f. subst (λ (m : Line). Form m l) e f) (line-form l)
 
 pub line-means : (l : List ℕ) → LineMeans l
-unfolding kind
 line-means l =
     record {
-      enters = λ s. (form-of l (enter s) (λ e. omega (arith, ap kind e)), form-line (enter s) l);
-      shows = λ s. (form-of l (show s) (λ e. omega (arith, ap kind e)), form-line (show s) l);
-      withdraws = λ s. (form-of l (withdraw s) (λ e. omega (arith, ap kind e)), form-line (withdraw s) l);
-      files = λ s day code. (form-of l (file s day code) (λ e. omega (arith, ap kind e)), form-line (file s day code) l);
+      enters = λ s. (form-of l (enter s) (not-bad (enter s) tt), form-line (enter s) l);
+      shows = λ s. (form-of l (show s) (not-bad (show s) tt), form-line (show s) l);
+      withdraws = λ s. (form-of l (withdraw s) (not-bad (withdraw s) tt), form-line (withdraw s) l);
+      files = λ s day code. (form-of l (file s day code) (not-bad (file s day code) tt), form-line (file s day code) l);
       formless = (
         λ e m f. subst (λ (m : Line). Form m l) (sym (form-line m l f) ∙ e) f,
         λ none. ⊎-elim (λ b. b) (λ f. absurd (none (lineOf l) f)) (line-form l),

@@ -126,20 +126,35 @@ plus a b = min tallyTop (a + b)
 unfoldable pub one : Bool → ℕ
 one b = cond b 1 0
 
-unfoldable pub kind : Line → ℕ
-kind bad = 0
-kind (enter f) = 1
-kind (withdraw f) = 2
-kind (file f day code) = 3
-kind (show f) = 4
+-- the lines that count, once they are done
+unfoldable pub entering : Line → Bool
+entering bad = false
+entering (enter f) = true
+entering (show f) = false
+entering (withdraw f) = false
+entering (file f day code) = false
+
+unfoldable pub withdrawing : Line → Bool
+withdrawing bad = false
+withdrawing (enter f) = false
+withdrawing (show f) = false
+withdrawing (withdraw f) = true
+withdrawing (file f day code) = false
+
+unfoldable pub filing : Line → Bool
+filing bad = false
+filing (enter f) = false
+filing (show f) = false
+filing (withdraw f) = false
+filing (file f day code) = true
 
 unfoldable pub counted : Tally → Store → Line → Step → Tally
 counted t s l r =
     let done = eqb (r .answer .number) 0 in
     record {
-      entries = plus (t .entries) (one (done && eqb (kind l) 1));
-      withdrawals = plus (t .withdrawals) (one (done && eqb (kind l) 2));
-      filings = plus (t .filings) (one (done && eqb (kind l) 3));
+      entries = plus (t .entries) (one (done && entering l));
+      withdrawals = plus (t .withdrawals) (one (done && withdrawing l));
+      filings = plus (t .filings) (one (done && filing l));
       splits = plus (t .splits) (one (ltb (size s) (size (r .store))));
       contractions = plus (t .contractions) (one (ltb (size (r .store)) (size s)));
       comparisons = plus (t .comparisons) (r .answer .comparisons);

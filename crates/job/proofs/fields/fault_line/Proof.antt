@@ -3,8 +3,8 @@ use mathlib.Core.Path.{_≡_, sym, _∙_}
 use mathlib.Core.Bool.{true}
 use borrow.Author.Tests.{not-true, not-false}
 use denote.Ref.{now}
-use Rattle.model.specs.Job.{bad, file, kind, isNumber, valueFrom}
-use Rattle.job.specs.Told.{serialIn, dayIn, codeIn}
+use Rattle.model.specs.Job.{bad, file, isNumber, valueFrom}
+use Rattle.job.specs.Told.{kindIn, serialIn, dayIn, codeIn}
 use Rattle.job.proofs.Forms.{as-line, four-other, four-no-day, four-no-code, four-file}
 use Rattle.job.proofs.fields.fault_line.Statement.{statement}
 use Rattle.job.proofs.fields.fault_line.Tie as tie
@@ -46,7 +46,7 @@ number-requires-2 : tie.Need-number-requires-2
 number-requires-2 c κs = code (c .before)
 
 returns-4 : tie.Need-returns-4
-unfolding kind serialIn dayIn codeIn
+unfolding kindIn serialIn dayIn codeIn
 returns-4 c =
     let p = c .before .before .before in
     let t = p .before .before .before .before .before .before .before .before .args in

@@ -1,8 +1,8 @@
 -- `turn::listed` meets its contract: the pairs of a done show or withdraw are those of the card that its plan found, and any other line lists none.
 use mathlib.Core.Path.{_∙_}
-use mathlib.Core.Logic.{inl, inr}
 use borrow.Author.Needs.{needs}
 use Rattle.model.proofs.Sound.{sound-good}
+use Rattle.job.proofs.ByKind.{tells-pairs, silent}
 use Rattle.job.proofs.Asking.{lists-refused, lists-none, holds-pairs, lists-pairs}
 use Rattle.job.proofs.turn.listed.Statement.{statement}
 use Rattle.job.proofs.turn.listed.Tie as tie
@@ -17,17 +17,17 @@ put-history-requires : tie.Need-put-history-requires
 put-history-requires c κs =
     let m = c .before in
     let s = start (m .before) in
-    (s .pre .0, holds-pairs _ (sound-good _ (s .pre .0) .0) (s .args .p) (m .match .keys1) (s .pre .1) (m .before .if1 .left) _ (s .pre .2))
+    (s .pre .0, holds-pairs _ (sound-good _ (s .pre .0) .0) (s .args .p) (tells-pairs _ (m .match .keys1)) (s .pre .1) (m .before .if1 .left) _ (s .pre .2))
 
 returns-2 : tie.Need-returns-2
 returns-2 c =
     let h = c .before .before in
     let m = h .before .before in
     let s = start (m .before) in
-    lists-pairs _ (sound-good _ (s .pre .0) .0) (s .args .p) (m .match .keys1) (s .pre .1) (m .before .if1 .left) _ (s .pre .2) (h .put-history .ensures)
+    lists-pairs _ (sound-good _ (s .pre .0) .0) (s .args .p) (tells-pairs _ (m .match .keys1)) (s .pre .1) (m .before .if1 .left) _ (s .pre .2) (h .put-history .ensures)
 
 returns-3 : tie.Need-returns-3
-returns-3 c = lists-none _ _ _ (λ e. c .match .rest .1 (inl e)) (λ e. c .match .rest .1 (inr e))
+returns-3 c = let p = start (c .before) .args .p in lists-none _ _ _ (silent (p .kind) (c .match .keys2))
 
 pub listed-spec : {M : Type 1} → statement M
 listed-spec = tie.close (tie.spec returns put-history-requires (λ c. search needs) returns-2 returns-3)

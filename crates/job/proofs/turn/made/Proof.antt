@@ -1,6 +1,7 @@
 -- `turn::made` meets its contract: what is refused, and what asks for no change, leaves the words; each other kind has its change.
 use mathlib.Core.Path.{_∙_}
 use borrow.Author.Needs.{needs}
+use Rattle.job.proofs.ByKind.{idle}
 use Rattle.job.proofs.Asking.{made-refused, made-none, ready-enter, made-enter, ready-withdraw, made-withdraw, ready-file, made-file}
 use Rattle.job.proofs.turn.made.Statement.{statement}
 use Rattle.job.proofs.turn.made.Tie as tie
@@ -13,56 +14,56 @@ returns c = let s = c .before .before .before in made-refused _ (s .pre .0) (s .
 
 make-enter-requires : tie.Need-make-enter-requires
 make-enter-requires c κs =
-    let i = c .before .before .before in
+    let i = c .before .before .before .before in
     let s = start i in
-    (s .pre .0, ready-enter _ (s .args .p) (s .pre .1) (c .before .match .keys1), i .if1 .left)
+    (s .pre .0, ready-enter _ (s .args .p) (s .pre .1) (c .before .enum-told .given .1), i .if1 .left)
 
 make-withdraw-requires : tie.Need-make-withdraw-requires
 make-withdraw-requires c κs =
-    let i = c .before .before .before in
+    let i = c .before .before .before .before in
     let s = start i in
-    (s .pre .0, ready-withdraw _ (s .args .p) (s .pre .1) (c .before .match .keys2) (i .if1 .left))
+    (s .pre .0, ready-withdraw _ (s .args .p) (s .pre .1) (c .before .enum-told2 .given .1) (i .if1 .left))
 
 make-file-requires : tie.Need-make-file-requires
 make-file-requires c κs =
-    let i = c .before .before .before in
+    let i = c .before .before .before .before in
     let s = start i in
-    (s .pre .0, ready-file _ (s .args .p) (s .pre .1) (c .before .match .keys3) (i .if1 .left))
+    (s .pre .0, ready-file _ (s .args .p) (s .pre .1) (c .before .enum-told3 .given .1) (i .if1 .left))
 
 returns-2 : tie.Need-returns-2
 returns-2 c =
     let m = c .before .before in
     let k = m .before .before in
-    let s = start (k .before .before) in
-    made-enter _ (s .args .p) (s .pre .1) (k .match .keys1) (m .make-enter .ensures)
+    let s = start (k .before .before .before) in
+    made-enter _ (s .args .p) (s .pre .1) (k .enum-told .given .1) (m .make-enter .ensures)
 
 returns-3 : tie.Need-returns-3
 returns-3 c =
     let m = c .before .before in
     let k = m .before .before in
-    let s = start (k .before .before) in
-    made-withdraw _ (s .args .p) (s .pre .1) (k .match .keys2) (m .make-withdraw .ensures)
+    let s = start (k .before .before .before) in
+    made-withdraw _ (s .args .p) (s .pre .1) (k .enum-told2 .given .1) (m .make-withdraw .ensures)
 
 returns-4 : tie.Need-returns-4
 returns-4 c =
     let m = c .before .before in
     let k = m .before .before in
-    let s = start (k .before .before) in
-    made-file _ (s .args .p) (s .pre .1) (k .match .keys3) (m .make-file .ensures)
+    let s = start (k .before .before .before) in
+    made-file _ (s .args .p) (s .pre .1) (k .enum-told3 .given .1) (m .make-file .ensures)
 
 returns-5 : tie.Need-returns-5
-returns-5 c =
-    let s = start (c .before .before) in
-    let r = c .match .rest in
-    made-none _ (s .pre .0) (s .args .p) (r .0 .0 .1) (r .0 .1) (r .1)
+returns-5 c = let s = start (c .before .before) in made-none _ (s .pre .0) (s .args .p) (idle (s .args .p .kind) (c .match .keys4))
 
 pub made-spec : {M : Type 1} → statement M
 made-spec =
     tie.close
     (tie.spec
     returns
+    (λ c. search needs)
     make-enter-requires
+    (λ c. search needs)
     make-withdraw-requires
+    (λ c. search needs)
     make-file-requires
     (λ c. search needs)
     returns-2
