@@ -4,7 +4,7 @@ use mathlib.Core.List.{List, [], _∷_, _++_}
 use Prim.Native.Nat.{ℕ, _+_, _*_, _≤_}
 use lib.ListN.{length}
 use lib.Seq.{sets}
-use Rattle.model.specs.Job.{decimal, pairText}
+use Rattle.model.specs.Job.{lf, space, colon, decimal, pairText}
 
 -- from `at` on the output has the bytes of the text, all else is as it was, and `end` is the place behind the text
 pub record Puts (out : List ℕ) (at : ℕ) (text : List ℕ) (end : ℕ) (left : List ℕ) : Type 0 where
@@ -22,7 +22,7 @@ marked mark n = mark ∷ decimal n
 
 -- a fault: ` day:code`
 unfoldable pub pairOf : ℕ → ℕ → List ℕ
-pairOf day code = marked 32 day ++ marked 58 code
+pairOf day code = marked space day ++ marked colon code
 
 -- how long a fault's text is, and the texts of `count` faults
 pub record PairLong (day code r : ℕ) : Type 0 where
@@ -35,11 +35,11 @@ pub record PairsLong (count : ℕ) (room : List ℕ) (r : ℕ) : Type 0 where
 
 -- number, comparisons, scanned and faults, one space between
 unfoldable pub numbersOf : ℕ → ℕ → ℕ → ℕ → List ℕ
-numbersOf number comparisons scanned faults = decimal number ++ (marked 32 comparisons ++ (marked 32 scanned ++ marked 32 faults))
+numbersOf number comparisons scanned faults = decimal number ++ (marked space comparisons ++ (marked space scanned ++ marked space faults))
 
 -- an answer line: the four numbers, the pairs listed, LF
 unfoldable pub answerOf : ℕ → ℕ → ℕ → ℕ → ℕ → List ℕ → List ℕ
-answerOf number comparisons scanned faults count room = numbersOf number comparisons scanned faults ++ (pairText count room ++ (10 ∷ []))
+answerOf number comparisons scanned faults count room = numbersOf number comparisons scanned faults ++ (pairText count room ++ (lf ∷ []))
 
 -- how long an answer line with its LF is
 pub record AnswerLong (answer : List ℕ) (count r : ℕ) : Type 0 where

@@ -4,8 +4,9 @@ ghost use mathlib.Core.Bool.{true};
 ghost use Prim.Native.Nat.{_+_, _-_, _*_, _≤_, _<_, min};
 ghost use mathlib.Core.List.{[], _∷_};
 ghost use Rattle.model.specs.Lists.{between, all};
-ghost use Rattle.model.specs.Job.{bad, two, four, fromFields, fields, isNumber, valueFrom, padded, lineOf};
+ghost use Rattle.model.specs.Job.{space, digitZero, digitNine, bad, two, four, fromFields, fields, isNumber, valueFrom, padded, lineOf};
 ghost use Rattle.job.specs.Told.{Holds, Told};
+use super::letters;
 use super::lines::field_end;
 use rules::SERIAL;
 
@@ -31,16 +32,16 @@ pub struct Parsed {
 // The longest line without its LF, and the most digits of a number.
 const LONGEST_LINE: usize = 64;
 
-const DIGITS: usize = 9;
+const MOST_DIGITS: usize = 9;
 
 fn is_digit(b: u8) -> bool
-    ensures { λ r. ⌜ r ≡ between 48 57 b ⌝ }
+    ensures { λ r. ⌜ r ≡ between digitZero digitNine b ⌝ }
 {
-    48 <= b && b <= 57
+    letters::DIGIT_ZERO <= b && b <= letters::DIGIT_NINE
 }
 
 fn all_digits(field: &[u8]) -> bool
-    ensures { λ r. ⌜ r ≡ all (between 48 57) (now (field .entry)) ⌝ }
+    ensures { λ r. ⌜ r ≡ all (between digitZero digitNine) (now (field .entry)) ⌝ }
 {
     let mut i = 0;
     while i < field.len() {
@@ -59,7 +60,7 @@ pub fn is_number(field: &[u8]) -> bool
     if field.len() < 1 {
         return false;
     }
-    if DIGITS < field.len() {
+    if MOST_DIGITS < field.len() {
         return false;
     }
     all_digits(field)
@@ -67,10 +68,10 @@ pub fn is_number(field: &[u8]) -> bool
 
 // The value v with one digit more.
 fn with_digit(v: u32, digit: u8) -> u32
-    requires { ⌜ (v < 100000000) × (48 ≤ digit) × (digit ≤ 57) ⌝ }
-    ensures { λ r. ⌜ r ≡ 10 * v + (digit - 48) ⌝ }
+    requires { ⌜ (v < 100000000) × (digitZero ≤ digit) × (digit ≤ digitNine) ⌝ }
+    ensures { λ r. ⌜ r ≡ 10 * v + (digit - digitZero) ⌝ }
 {
-    10 * v + (digit - 48) as u32
+    10 * v + (digit - letters::DIGIT_ZERO) as u32
 }
 
 // The value of a number field, below 10 ^ 9.
@@ -140,9 +141,9 @@ fn serial_line(op: u8, serial: &[u8]) -> Parsed
     ensures { λ r. ⌜ Told (two (op ∷ []) (now (serial .entry))) r ⌝ }
 {
     match op {
-        b'E' => filled(Kind::Enter, serial, 0, 0),
-        b'W' => filled(Kind::Withdraw, serial, 0, 0),
-        b'S' => filled(Kind::Show, serial, 0, 0),
+        letters::LETTER_E => filled(Kind::Enter, serial, 0, 0),
+        letters::LETTER_W => filled(Kind::Withdraw, serial, 0, 0),
+        letters::LETTER_S => filled(Kind::Show, serial, 0, 0),
         _ => bad_line(),
     }
 }
@@ -151,7 +152,7 @@ fn serial_line(op: u8, serial: &[u8]) -> Parsed
 fn fault_line(op: u8, serial: &[u8], day: &[u8], code: &[u8]) -> Parsed
     ensures { λ r. ⌜ Told (four (op ∷ []) (now (serial .entry)) (now (day .entry)) (now (code .entry))) r ⌝ }
 {
-    if op != b'F' {
+    if op != letters::LETTER_F {
         return bad_line();
     }
     if !is_number(day) {
@@ -165,7 +166,7 @@ fn fault_line(op: u8, serial: &[u8], day: &[u8], code: &[u8]) -> Parsed
 
 // A line whose serial is not its last field, with what stands behind the serial: two fields more, or it is bad.
 fn longer_line(op: u8, serial: &[u8], rest: &[u8]) -> Parsed
-    ensures { λ r. ⌜ Told (fromFields ((op ∷ []) ∷ now (serial .entry) ∷ fields 32 (now (rest .entry)))) r ⌝ }
+    ensures { λ r. ⌜ Told (fromFields ((op ∷ []) ∷ now (serial .entry) ∷ fields space (now (rest .entry)))) r ⌝ }
 {
     let gap = field_end(rest, 0);
     if rest.len() <= gap {

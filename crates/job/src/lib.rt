@@ -10,11 +10,13 @@ ghost use Rattle.job.specs.Runs.{linesOn, Ends, turnedBack, Did};
 ghost use Rattle.job.specs.Counts.{tallyOf};
 
 pub mod fields; // fields.rt: a line taken apart into its fields
+pub mod letters; // letters.rt: the bytes of a line, by name
 mod lines; // lines.rt: where a line or a field ends
 pub mod tally; // tally.rt: what a job counts
 pub mod text; // text.rt: numbers and answers as text
 mod turn; // turn.rt: one line, from its bytes to its answer
 
+use store::numbers;
 pub use tally::Tally;
 
 // How a job ended: its number, 0 if all lines were answered, the lines done and the bytes written.
@@ -48,7 +50,7 @@ fn each_line(words: &mut [u32], room: &mut [u32], text: &[u8], out: &mut [u8], t
         if !t.fits {
             return Ran {
                 done: Done {
-                    number: 10,
+                    number: numbers::SHORT_ROOM,
                     lines,
                     bytes: bytes as u32,
                 },
@@ -100,14 +102,14 @@ pub fn work(words: &mut [u32], scratch: &mut [u8], text: &[u8], out: &mut [u8], 
 {
     let n = store::need(words);
     if scratch.len() < n {
-        return refused(11, tally);
+        return refused(numbers::SHORT_SCRATCH, tally);
     }
     if MOST_TEXT < text.len() {
         store::clear(scratch, n);
-        return refused(13, tally);
+        return refused(numbers::LONG_TEXT, tally);
     }
     if !store::check(words, scratch) {
-        return refused(3, tally);
+        return refused(numbers::NOT_SOUND, tally);
     }
     with_room(words, text, out, tally)
 }

@@ -1,11 +1,8 @@
 // Where a line or a field ends.
 ghost use mathlib.Core.Path.{_≡_};
+ghost use Rattle.model.specs.Job.{lf, space};
 ghost use Rattle.job.specs.Pieces.{pieceEnd};
-
-// Lines end with LF, fields with one space.
-const LF: u8 = 10;
-
-const SPACE: u8 = 32;
+use super::letters;
 
 // The place of the first separator at or after `at`, or the length where there is none.
 pub fn piece_end(text: &[u8], at: usize, sep: u8) -> usize
@@ -23,14 +20,14 @@ pub fn piece_end(text: &[u8], at: usize, sep: u8) -> usize
 
 // The end of the line that begins at `at`.
 pub fn line_end(text: &[u8], at: usize) -> usize
-    ensures { λ r. ⌜ r ≡ pieceEnd 10 (now (text .entry)) at ⌝ }
+    ensures { λ r. ⌜ r ≡ pieceEnd lf (now (text .entry)) at ⌝ }
 {
-    piece_end(text, at, LF)
+    piece_end(text, at, letters::LF)
 }
 
 // The end of the field that begins at `at`.
 pub fn field_end(line: &[u8], at: usize) -> usize
-    ensures { λ r. ⌜ r ≡ pieceEnd 32 (now (line .entry)) at ⌝ }
+    ensures { λ r. ⌜ r ≡ pieceEnd space (now (line .entry)) at ⌝ }
 {
-    piece_end(line, at, SPACE)
+    piece_end(line, at, letters::SPACE)
 }

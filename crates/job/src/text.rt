@@ -3,23 +3,16 @@ ghost use mathlib.Core.Path.{_≡_};
 ghost use mathlib.Core.List.{[], _∷_};
 ghost use Prim.Native.Nat.{_+_, _*_, _≤_, _<_};
 ghost use lib.ListN.{length, getD};
-ghost use Rattle.model.specs.Job.{decimal, pairText};
+ghost use Rattle.model.specs.Job.{digitZero, decimal, pairText};
 ghost use Rattle.job.specs.Text.{Puts, Digits, PairLong, PairsLong, AnswerLong, marked, pairOf, numbersOf, answerOf};
-
-const LF: u8 = 10;
-
-const SPACE: u8 = 32;
-
-const COLON: u8 = 58;
-
-const ZERO: u8 = 48;
+use super::letters;
 
 // The digit of a number below 10.
 fn digit(d: u32) -> u8
     requires { ⌜ d < 10 ⌝ }
-    ensures { λ r. ⌜ r ≡ 48 + d ⌝ }
+    ensures { λ r. ⌜ r ≡ digitZero + d ⌝ }
 {
-    ZERO + d as u8
+    letters::DIGIT_ZERO + d as u8
 }
 
 // How many digits a number has in decimal: at most ten.
@@ -75,8 +68,8 @@ fn put_pair(out: &mut [u8], at: usize, day: u32, code: u32) -> usize
     requires { ⌜ at + length (pairOf day code) ≤ length (now out) ⌝ }
     ensures { λ r. ⌜ Puts (now (out .entry)) at (pairOf day code) r (now (out .exit)) ⌝ }
 {
-    let next = put_marked(out, at, SPACE, day);
-    put_marked(out, next, COLON, code)
+    let next = put_marked(out, at, letters::SPACE, day);
+    put_marked(out, next, letters::COLON, code)
 }
 
 // A word of the room.
@@ -118,9 +111,9 @@ pub fn put_numbers(
     ensures { λ r. ⌜ Puts (now (out .entry)) at (numbersOf number comparisons scanned faults) r (now (out .exit)) ⌝ }
 {
     let a = put_decimal(out, at, number);
-    let b = put_marked(out, a, SPACE, comparisons);
-    let c = put_marked(out, b, SPACE, scanned);
-    put_marked(out, c, SPACE, faults)
+    let b = put_marked(out, a, letters::SPACE, comparisons);
+    let c = put_marked(out, b, letters::SPACE, scanned);
+    put_marked(out, c, letters::SPACE, faults)
 }
 
 // How long a fault's text is.
@@ -183,5 +176,5 @@ pub fn put_answer(
 {
     let a = put_numbers(out, at, number, comparisons, scanned, faults);
     let b = put_pairs(out, a, count, room);
-    put_byte(out, b, LF)
+    put_byte(out, b, letters::LF)
 }

@@ -19,6 +19,7 @@ use super::text;
 use store::enters;
 use store::files;
 use store::layout;
+use store::numbers;
 use store::plans;
 use store::plans::Plan;
 use store::shows;
@@ -46,7 +47,7 @@ fn planned(words: &[u32], p: Parsed) -> Plan
         Kind::Withdraw => plans::plan_withdraw(words, serial, p.len, ROOM),
         Kind::File => plans::plan_file(words, serial, p.len, p.day, p.code),
         Kind::Show => plans::plan_show(words, serial, p.len, ROOM),
-        Kind::Bad => plans::turned_down(words, 12),
+        Kind::Bad => plans::turned_down(words, numbers::BAD_LINE),
     }
 }
 

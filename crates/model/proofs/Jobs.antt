@@ -19,7 +19,7 @@ use Rattle.model.specs.Layout.{shapeOf, decode, sound}
 use Rattle.model.specs.Calls.{cleaned}
 use Rattle.model.specs.Runs.{Act, perform, run}
 use Rattle.model.specs.Runs as Runs
-use Rattle.model.specs.Job.{linesOf, Line, bad, enter, show, withdraw, file, lineOf, padded, enough, stepOf, answerText, Tally, Run, runLines, started, Finished, turnedAway, jobIf, mostText, job}
+use Rattle.model.specs.Job.{linesOf, Line, bad, enter, show, withdraw, file, lineOf, padded, enough, stepOf, answerText, Tally, Run, runLines, started, Finished, refusedJob, jobIf, mostText, job}
 use Rattle.model.specs.Deeds.{callsOf, saidBy, said}
 use Rattle.model.proofs.Fair.{filings, Good, faults-total}
 use Rattle.model.proofs.Shapes.{few-faults}
@@ -34,9 +34,9 @@ use Rattle.model.proofs.LineForms.{not-bad}
 -- the job by its tests, whatever is to be shown of it
 module _ (w scratch text out : List ℕ) (t : Tally) (P : Finished → Type 0) where
   pub job-cases :
-      (length scratch < need (shapeOf w) → P (turnedAway 11 w out scratch t))
-      → (need (shapeOf w) ≤ length scratch → mostText < length text → P (turnedAway 13 w out (cleaned (need (shapeOf w)) scratch) t))
-      → (need (shapeOf w) ≤ length scratch → length text ≤ mostText → sound w ≡ false → P (turnedAway 3 w out (cleaned (need (shapeOf w)) scratch) t))
+      (length scratch < need (shapeOf w) → P (refusedJob 11 w out scratch t))
+      → (need (shapeOf w) ≤ length scratch → mostText < length text → P (refusedJob 13 w out (cleaned (need (shapeOf w)) scratch) t))
+      → (need (shapeOf w) ≤ length scratch → length text ≤ mostText → sound w ≡ false → P (refusedJob 3 w out (cleaned (need (shapeOf w)) scratch) t))
       → (need (shapeOf w) ≤ length scratch → length text ≤ mostText → sound w ≡ true → P (jobIf true w scratch text out t))
       → P (job w scratch text out t)
   unfolding job

@@ -5,6 +5,7 @@ use mathlib.Core.List.{List, [], _∷_, _++_, map}
 use lib.ListN.{length, take, replicate}
 use Rattle.model.specs.Shape.{Shape, need}
 use Rattle.model.specs.Layout.{shapeOf, decode}
+use Rattle.model.specs.Numbers.{badLine}
 use Rattle.model.specs.Calls.{Step, refused, stays}
 use Rattle.model.specs.Runs.{Act, Call, Call.acting, outcome, wordsAfter, run}
 use Rattle.model.specs.Job.{Line, linesOf, padded, lineOf, enough, answerText, Tally, job}
@@ -31,7 +32,7 @@ callsOf sh (x ∷ xs) = callsBy sh x ++ callsOf sh xs
 
 -- what a line gives on the words w: 12 if its form is bad, else what its call gives
 abbrev pub stepBy : List ℕ → List Act → Step
-stepBy w [] = stays (refused 12) (decode w) []
+stepBy w [] = stays (refused badLine) (decode w) []
 stepBy w (a ∷ more) = let o = outcome w (tidy (shapeOf w)) a in record { answer = o .answer; store = decode (o .words); room = o .room }
 
 -- and as text

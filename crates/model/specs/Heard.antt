@@ -3,7 +3,7 @@ use Prim.Native.Nat.{ℕ}
 use mathlib.Core.List.{List, [], _∷_, _++_, map}
 use lib.ListN.{length, drop, getD}
 use Rattle.model.specs.Runs.{Act, roomOf, Event, Event.answered, Tell}
-use Rattle.model.specs.Job.{fields, valueFrom, lineOf}
+use Rattle.model.specs.Job.{space, colon, fields, valueFrom, lineOf}
 use Rattle.model.specs.Deeds.{actsOf}
 
 -- field k as a number
@@ -12,17 +12,17 @@ numberAt k fs = valueFrom 0 (getD fs k [])
 
 -- an answer line without its LF: its number, its faults, and behind them day and code of each pair
 unfoldable pub numberIn : List ℕ → ℕ
-numberIn y = numberAt 0 (fields 32 y)
+numberIn y = numberAt 0 (fields space y)
 
 unfoldable pub faultsIn : List ℕ → ℕ
-faultsIn y = numberAt 3 (fields 32 y)
+faultsIn y = numberAt 3 (fields space y)
 
 abbrev pub pairsBy : List (List ℕ) → List ℕ
 pairsBy [] = []
-pairsBy (f ∷ fs) = numberAt 0 (fields 58 f) ∷ numberAt 1 (fields 58 f) ∷ pairsBy fs
+pairsBy (f ∷ fs) = numberAt 0 (fields colon f) ∷ numberAt 1 (fields colon f) ∷ pairsBy fs
 
 unfoldable pub pairsIn : List ℕ → List ℕ
-pairsIn y = pairsBy (drop 4 (fields 32 y))
+pairsIn y = pairsBy (drop 4 (fields space y))
 
 -- what it tells of an act: the pairs stand at the front of the room that was asked with
 abbrev pub heard : Act → List ℕ → Tell

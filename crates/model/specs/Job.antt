@@ -12,6 +12,42 @@ use Rattle.model.specs.Layout.{shapeOf, encode, decode, sound}
 use Rattle.model.specs.Numbers.{notSound, shortRoom, shortScratch, badLine, longText}
 use Rattle.model.specs.Calls.{Answer, Step, refused, cleaned, stays, enterStep, fileStep, showStep, withdrawStep}
 
+-- the bytes that part a text: LF ends a line, a space parts fields, a colon day and code
+abbrev pub lf : ℕ
+lf = 10
+
+abbrev pub space : ℕ
+space = 32
+
+abbrev pub colon : ℕ
+colon = 58
+
+-- the first and the last digit; E enters, F files, S shows, W withdraws
+abbrev pub digitZero : ℕ
+digitZero = 48
+
+abbrev pub digitNine : ℕ
+digitNine = 57
+
+abbrev pub letterE : ℕ
+letterE = 69
+
+abbrev pub letterF : ℕ
+letterF = 70
+
+abbrev pub letterS : ℕ
+letterS = 83
+
+abbrev pub letterW : ℕ
+letterW = 87
+
+-- the longest line without its LF, and the most digits of a number
+abbrev pub longestLine : ℕ
+longestLine = 64
+
+abbrev pub mostDigits : ℕ
+mostDigits = 9
+
 -- the fields between separators; there is always one
 unfoldable pub onto : ℕ → List (List ℕ) → List (List ℕ)
 onto b [] = (b ∷ []) ∷ []
@@ -29,14 +65,14 @@ dropEmptyLast ((b ∷ bs) ∷ []) = (b ∷ bs) ∷ []
 dropEmptyLast (l ∷ m ∷ ls) = l ∷ dropEmptyLast (m ∷ ls)
 
 unfoldable pub linesOf : List ℕ → List (List ℕ)
-linesOf text = dropEmptyLast (fields 10 text)
+linesOf text = dropEmptyLast (fields lf text)
 
 unfoldable pub isNumber : List ℕ → Bool
-isNumber f = between 1 9 (length f) && all (between 48 57) f
+isNumber f = between 1 mostDigits (length f) && all (between digitZero digitNine) f
 
 unfoldable pub valueFrom : ℕ → List ℕ → ℕ
 valueFrom v [] = v
-valueFrom v (d ∷ ds) = valueFrom (10 * v + (d - 48)) ds
+valueFrom v (d ∷ ds) = valueFrom (10 * v + (d - digitZero)) ds
 
 -- a serial as a field, made sixteen bytes; its length is kept, so an empty one or one over 16 is refused by 4
 unfoldable pub padded : List ℕ → List ℕ
@@ -51,11 +87,11 @@ pub data Line : Type 0 where
 
 unfoldable pub two : List ℕ → List ℕ → Line
 two op serial =
-    cond (same op (69 ∷ [])) (enter serial) (cond (same op (83 ∷ [])) (show serial) (cond (same op (87 ∷ [])) (withdraw serial) bad))
+    cond (same op (letterE ∷ [])) (enter serial) (cond (same op (letterS ∷ [])) (show serial) (cond (same op (letterW ∷ [])) (withdraw serial) bad))
 
 unfoldable pub four : List ℕ → List ℕ → List ℕ → List ℕ → Line
 four op serial day code =
-    cond (same op (70 ∷ []) && (isNumber day && isNumber code)) (file serial (valueFrom 0 day) (valueFrom 0 code)) bad
+    cond (same op (letterF ∷ []) && (isNumber day && isNumber code)) (file serial (valueFrom 0 day) (valueFrom 0 code)) bad
 
 unfoldable pub fromFields : List (List ℕ) → Line
 fromFields [] = bad
@@ -66,7 +102,7 @@ fromFields (a ∷ b ∷ c ∷ d ∷ []) = four a b c d
 fromFields (a ∷ b ∷ c ∷ d ∷ e ∷ fs) = bad
 
 unfoldable pub lineOf : List ℕ → Line
-lineOf l = cond (ltb 64 (length l)) bad (fromFields (fields 32 l))
+lineOf l = cond (ltb longestLine (length l)) bad (fromFields (fields space l))
 
 -- the room that a line is given: two words for each fault that a store of any format can hold, never too little
 unfoldable pub enough : List ℕ
@@ -83,8 +119,8 @@ stepOf s (file f day code) = fileStep s (padded f) (length f) day code
 unfoldable pub digits : ℕ → ℕ → List ℕ → List ℕ
 digits zero n acc = acc
 digits (suc fuel) n acc =
-    let rest = digits fuel (n / 10) ((48 + n % 10) ∷ acc) in
-    cond (ltb n 10) ((48 + n) ∷ acc) rest
+    let rest = digits fuel (n / 10) ((digitZero + n % 10) ∷ acc) in
+    cond (ltb n 10) ((digitZero + n) ∷ acc) rest
 
 unfoldable pub decimal : ℕ → List ℕ
 decimal n = digits 20 n []
@@ -93,7 +129,7 @@ unfoldable pub pairText : ℕ → List ℕ → List ℕ
 pairText zero room = []
 pairText (suc k) [] = []
 pairText (suc k) (d ∷ []) = []
-pairText (suc k) (d ∷ c ∷ rest) = 32 ∷ (decimal d ++ (58 ∷ (decimal c ++ pairText k rest)))
+pairText (suc k) (d ∷ c ∷ rest) = space ∷ (decimal d ++ (colon ∷ (decimal c ++ pairText k rest)))
 
 -- pairs are written behind a done show or withdraw, whose room holds them
 unfoldable pub listed : Line → Answer → ℕ
@@ -106,7 +142,7 @@ listed (file f day code) a = 0
 unfoldable pub answerText : Line → Step → List ℕ
 answerText l r =
     let a = r .answer in
-    decimal (a .number) ++ (32 ∷ (decimal (a .comparisons) ++ (32 ∷ (decimal (a .scanned) ++ (32 ∷ (decimal (a .faults) ++ (pairText (listed l a) (r .room) ++ (10 ∷ []))))))))
+    decimal (a .number) ++ (space ∷ (decimal (a .comparisons) ++ (space ∷ (decimal (a .scanned) ++ (space ∷ (decimal (a .faults) ++ (pairText (listed l a) (r .room) ++ (lf ∷ []))))))))
 
 pub record Tally : Type 0 where
   pub entries : ℕ
@@ -191,14 +227,15 @@ pub record Finished : Type 0 where
   pub scratch : List ℕ
   pub tally : Tally
 
-abbrev pub turnedAway : ℕ → List ℕ → List ℕ → List ℕ → Tally → Finished
-turnedAway n w out scratch t = record { number = n; lines = 0; bytes = 0; words = w; out = out; scratch = scratch; tally = t }
+-- a job that is refused: no line is done, no byte written, and store, output and tally stay
+abbrev pub refusedJob : ℕ → List ℕ → List ℕ → List ℕ → Tally → Finished
+refusedJob n w out scratch t = record { number = n; lines = 0; bytes = 0; words = w; out = out; scratch = scratch; tally = t }
 
 abbrev pub started : Store → Tally → Run
 started s t = record { number = 0; lines = 0; text = []; store = s; tally = t }
 
 abbrev pub jobIf : Bool → List ℕ → List ℕ → List ℕ → List ℕ → Tally → Finished
-jobIf false w scratch text out t = turnedAway notSound w out (cleaned (need (shapeOf w)) scratch) t
+jobIf false w scratch text out t = refusedJob notSound w out (cleaned (need (shapeOf w)) scratch) t
 jobIf true w scratch text out t =
     let r = runLines (linesOf text) (length out) (started (decode w) t) in
     record {
@@ -217,6 +254,6 @@ mostText = 16384
 -- first 11, then 13, then 3; soundness is tested once
 unfoldable pub job : List ℕ → List ℕ → List ℕ → List ℕ → Tally → Finished
 job w scratch text out t =
-    cond (ltb (length scratch) (need (shapeOf w))) (turnedAway shortScratch w out scratch t)
-    (cond (ltb mostText (length text)) (turnedAway longText w out (cleaned (need (shapeOf w)) scratch) t)
+    cond (ltb (length scratch) (need (shapeOf w))) (refusedJob shortScratch w out scratch t)
+    (cond (ltb mostText (length text)) (refusedJob longText w out (cleaned (need (shapeOf w)) scratch) t)
     (jobIf (sound w) w scratch text out t))

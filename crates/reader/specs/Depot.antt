@@ -9,7 +9,7 @@ use Rattle.model.specs.Shape.{Shape, need}
 use Rattle.model.specs.Model.{fresh}
 use Rattle.model.specs.Layout.{encode}
 use Rattle.model.specs.Calls.{Terms, shapeFor}
-use Rattle.model.specs.Job.{decimal, Tally, Finished, job}
+use Rattle.model.specs.Job.{lf, space, digitZero, decimal, Tally, Finished, job}
 use Rattle.job.specs.declared.Done.{Done}
 
 -- C and F of its store
@@ -48,7 +48,7 @@ nothing = record { entries = 0; withdrawals = 0; filings = 0; splits = 0; contra
 
 -- the number, then ` 0 0 0` and LF; nothing where all lines were answered
 unfoldable pub closing : ℕ → List ℕ
-closing n = cond (eqb n 0) [] (decimal n ++ (32 ∷ 48 ∷ 32 ∷ 48 ∷ 32 ∷ 48 ∷ 10 ∷ []))
+closing n = cond (eqb n 0) [] (decimal n ++ (space ∷ digitZero ∷ space ∷ digitZero ∷ space ∷ digitZero ∷ lf ∷ []))
 
 -- the bytes written by a job, and the closing line behind them
 unfoldable pub wholeText : Finished → List ℕ

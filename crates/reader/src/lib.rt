@@ -10,6 +10,7 @@ ghost use Rattle.reader.specs.Depot.{depotShape, opened, wholeSize, blan
 use job::Done;
 use job::Ran;
 use job::Tally;
+use job::letters;
 use job::text;
 use store::layout;
 
@@ -34,8 +35,6 @@ const CLOSING: usize = 9;
 
 // The most that is written.
 const WHOLE: usize = OUTPUT + CLOSING;
-
-const LF: u8 = 10;
 
 // A fresh store.
 fn fresh() -> [u32; WORDS]
@@ -83,7 +82,7 @@ fn close(out: &mut [u8], at: usize, number: u32) -> usize
         return at;
     }
     let end = text::put_numbers(out, at, number, 0, 0, 0);
-    text::put_byte(out, end, LF)
+    text::put_byte(out, end, letters::LF)
 }
 
 // The job in the front of the output, and its closing line behind it.
