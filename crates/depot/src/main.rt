@@ -1,5 +1,5 @@
 // The program: reads one job from standard input and writes its answers. What it writes is
-// `reader::answered` of what it read.
+// `reader::answer` of what it read.
 //
 // A read that fails is not the end of the input: what came before it may be a part of a line, so
 // no line is run and nothing is answered. A program has no status of its own. It writes to
@@ -66,8 +66,8 @@ fn read_all(fd: i32, buf: &mut [u8]) -> Input
 }
 
 // Writes the answers of a job.
-fn answer(job: &[u8]) {
-    let text = reader::answered(job);
+fn write_answers(job: &[u8]) {
+    let text = reader::answer(job);
     let bytes = text.bytes;
     let len = text.len;
     if !io::write_all(STDOUT_FILENO, &bytes[..len]) {
@@ -82,7 +82,7 @@ fn say(text: &[u8]) {
 fn main() {
     let mut input = [0u8; reader::INPUT];
     match read_all(STDIN_FILENO, &mut input) {
-        Input::Whole(len) => answer(&input[..len]),
+        Input::Whole(len) => write_answers(&input[..len]),
         Input::Unread => say(
             b"depot: the input could not be read to its end, so no line of it was run\n",
         ),

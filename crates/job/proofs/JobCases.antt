@@ -10,26 +10,26 @@ use Rattle.model.specs.Layout.{shapeOf, sound}
 use Rattle.model.specs.Calls.{cleaned}
 use Rattle.model.specs.Job.{mostText, job}
 use Rattle.job.specs.Counts.{tallyOf}
-use Rattle.job.specs.Runs.{linesOn, Ends, turnedBack, Did}
+use Rattle.job.specs.Runs.{linesOn, Ends, refusedRan, Did}
 use Rattle.job.specs.declared.Ran.{Ran}
 use Rattle.job.specs.declared.tally.Tally.{Tally}
 
 module _ (w scratch text out : List ℕ) (t : Tally) where
   module _ {r : Ran} where
-    pub job-short : length scratch < need (shapeOf w) → r ≡ turnedBack 11 t → Did w scratch text out t (r .done) (r .tally) w scratch out
+    pub job-short : length scratch < need (shapeOf w) → r ≡ refusedRan 11 t → Did w scratch text out t (r .done) (r .tally) w scratch out
     unfolding job
     job-short h e =
         rw (e, lt-ltb (length scratch) (need (shapeOf w)) h)
         (record { number-is = refl; lines-are = refl; bytes-are = refl; tally-is = refl; words-are = refl; scratch-is = refl; out-is = refl })
 
     module _ {left : List ℕ} (h : need (shapeOf w) ≤ length scratch) (c : left ≡ cleaned (need (shapeOf w)) scratch) where
-      pub job-long : mostText < length text → r ≡ turnedBack 13 t → Did w scratch text out t (r .done) (r .tally) w left out
+      pub job-long : mostText < length text → r ≡ refusedRan 13 t → Did w scratch text out t (r .done) (r .tally) w left out
       unfolding job
       job-long l e =
           rw (e, c, le-ltb (length scratch) (need (shapeOf w)) h, lt-ltb mostText (length text) l)
           (record { number-is = refl; lines-are = refl; bytes-are = refl; tally-is = refl; words-are = refl; scratch-is = refl; out-is = refl })
 
-      pub job-unsound : length text ≤ mostText → sound w ≡ false → r ≡ turnedBack 3 t → Did w scratch text out t (r .done) (r .tally) w left out
+      pub job-unsound : length text ≤ mostText → sound w ≡ false → r ≡ refusedRan 3 t → Did w scratch text out t (r .done) (r .tally) w left out
       unfolding job
       job-unsound l s e =
           rw (e, c, le-ltb (length scratch) (need (shapeOf w)) h, le-ltb mostText (length text) l, s)

@@ -34,9 +34,9 @@ pub record Ends (r : Run) (out : List ℕ) (done : Done) (t : Held.Tally) (words
   pub words-are : words ≡ encode (r .store)
   pub out-is : out′ ≡ r .text ++ drop (length (r .text)) out
 
--- turned away before the first line
-abbrev pub turnedBack : ℕ → Held.Tally → Ran
-turnedBack n t = record { done = record { number = n; lines = 0; bytes = 0 }; tally = t }
+-- refused before the first line
+abbrev pub refusedRan : ℕ → Held.Tally → Ran
+refusedRan n t = record { done = record { number = n; lines = 0; bytes = 0 }; tally = t }
 
 -- the job of this text on what is lent, and what it gives and leaves
 abbrev pub Did : List ℕ → List ℕ → List ℕ → List ℕ → Held.Tally → Done → Held.Tally → List ℕ → List ℕ → List ℕ → Type 0

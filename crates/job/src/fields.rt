@@ -123,7 +123,7 @@ fn bad_line() -> Parsed
 }
 
 // A line of this kind, with its serial field and the numbers of a filing.
-fn filled(kind: Kind, serial: &[u8], day: u32, code: u32) -> Parsed
+fn line_of(kind: Kind, serial: &[u8], day: u32, code: u32) -> Parsed
     ensures { λ r. ⌜ Holds kind (now (serial .entry)) day code r ⌝ }
 {
     let bytes = sixteen(serial);
@@ -141,9 +141,9 @@ fn serial_line(op: u8, serial: &[u8]) -> Parsed
     ensures { λ r. ⌜ Told (two (op ∷ []) (now (serial .entry))) r ⌝ }
 {
     match op {
-        letters::LETTER_E => filled(Kind::Enter, serial, 0, 0),
-        letters::LETTER_W => filled(Kind::Withdraw, serial, 0, 0),
-        letters::LETTER_S => filled(Kind::Show, serial, 0, 0),
+        letters::LETTER_E => line_of(Kind::Enter, serial, 0, 0),
+        letters::LETTER_W => line_of(Kind::Withdraw, serial, 0, 0),
+        letters::LETTER_S => line_of(Kind::Show, serial, 0, 0),
         _ => bad_line(),
     }
 }
@@ -161,7 +161,7 @@ fn fault_line(op: u8, serial: &[u8], day: &[u8], code: &[u8]) -> Parsed
     if !is_number(code) {
         return bad_line();
     }
-    filled(Kind::File, serial, number(day), number(code))
+    line_of(Kind::File, serial, number(day), number(code))
 }
 
 // A line whose serial is not its last field, with what stands behind the serial: two fields more, or it is bad.

@@ -6,7 +6,7 @@ ghost use lib.ListN.{length};
 ghost use Rattle.model.specs.Shape.{faultsEver};
 ghost use Rattle.model.specs.Layout.{sound};
 ghost use Rattle.model.specs.Job.{mostText};
-ghost use Rattle.job.specs.Runs.{linesOn, Ends, turnedBack, Did};
+ghost use Rattle.job.specs.Runs.{linesOn, Ends, refusedRan, Did};
 ghost use Rattle.job.specs.Counts.{tallyOf};
 
 pub mod fields; // fields.rt: a line taken apart into its fields
@@ -36,7 +36,7 @@ pub struct Ran {
 pub const MOST_TEXT: usize = 16384;
 
 // The lines of a text on a store known to be sound, one turn a line, until one does not fit.
-fn each_line(words: &mut [u32], room: &mut [u32], text: &[u8], out: &mut [u8], tally: Tally) -> Ran
+fn run_lines(words: &mut [u32], room: &mut [u32], text: &[u8], out: &mut [u8], tally: Tally) -> Ran
     requires { ⌜ (sound (now words) ≡ true) × (2 * faultsEver ≤ length (now room)) × (length (now text) ≤ mostText) ⌝ }
     ensures { λ r. ⌜ Ends (linesOn (now (words .entry)) (now (text .entry)) (now (out .entry)) (tallyOf tally)) (now (out .entry)) (r .done) (r .tally) (now (words .exit)) (now (out .exit)) ⌝ }
 {
@@ -74,17 +74,17 @@ fn each_line(words: &mut [u32], room: &mut [u32], text: &[u8], out: &mut [u8], t
 }
 
 // The lines, with room for the pairs of one answer.
-fn with_room(words: &mut [u32], text: &[u8], out: &mut [u8], tally: Tally) -> Ran
+fn run_with_room(words: &mut [u32], text: &[u8], out: &mut [u8], tally: Tally) -> Ran
     requires { ⌜ (sound (now words) ≡ true) × (length (now text) ≤ mostText) ⌝ }
     ensures { λ r. ⌜ Ends (linesOn (now (words .entry)) (now (text .entry)) (now (out .entry)) (tallyOf tally)) (now (out .entry)) (r .done) (r .tally) (now (words .exit)) (now (out .exit)) ⌝ }
 {
     let mut room = [0u32; turn::ROOM];
-    each_line(words, &mut room, text, out, tally)
+    run_lines(words, &mut room, text, out, tally)
 }
 
-// A job that is turned away: no line is done, no byte written, and the tally stays.
-fn refused(number: u32, tally: Tally) -> Ran
-    ensures { λ r. ⌜ r ≡ turnedBack number tally ⌝ }
+// A job that is refused: no line is done, no byte written, and the tally stays.
+fn refuse(number: u32, tally: Tally) -> Ran
+    ensures { λ r. ⌜ r ≡ refusedRan number tally ⌝ }
 {
     Ran {
         done: Done {
@@ -102,16 +102,16 @@ pub fn work(words: &mut [u32], scratch: &mut [u8], text: &[u8], out: &mut [u8], 
 {
     let n = store::need(words);
     if scratch.len() < n {
-        return refused(numbers::SHORT_SCRATCH, tally);
+        return refuse(numbers::SHORT_SCRATCH, tally);
     }
     if MOST_TEXT < text.len() {
         store::clear(scratch, n);
-        return refused(numbers::LONG_TEXT, tally);
+        return refuse(numbers::LONG_TEXT, tally);
     }
     if !store::check(words, scratch) {
-        return refused(numbers::NOT_SOUND, tally);
+        return refuse(numbers::NOT_SOUND, tally);
     }
-    with_room(words, text, out, tally)
+    run_with_room(words, text, out, tally)
 }
 
 // The job, with the tally lent by the caller: the one thin function over `work`.

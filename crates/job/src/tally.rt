@@ -65,7 +65,7 @@ fn filing(kind: Kind) -> bool
 }
 
 // The tally after an answered line: its kind, whether it was done, the buckets before and after it, its comparisons.
-pub fn counted(t: Tally, kind: Kind, done: bool, before: u32, after: u32, comparisons: u32) -> Tally
+pub fn count(t: Tally, kind: Kind, done: bool, before: u32, after: u32, comparisons: u32) -> Tally
     ensures { λ r. ⌜ tallyOf r ≡ countedBy (tallyOf t) kind done before after comparisons ⌝ }
 {
     Tally {

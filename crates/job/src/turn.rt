@@ -36,7 +36,7 @@ pub struct Turned {
 pub const ROOM: usize = 2 * layout::MOST_FAULTS as usize;
 
 // The plan of a line, by its kind: 12 for one that is not well formed.
-fn planned(words: &[u32], p: Parsed) -> Plan
+fn plan_line(words: &[u32], p: Parsed) -> Plan
     requires { ⌜ sound (now words) ≡ true ⌝ }
     ensures { λ r. ⌜ Plans (asked (decode (now (words .entry))) p .answer) (now (words .entry)) (p .serial) (p .len) r ⌝ }
 {
@@ -52,7 +52,7 @@ fn planned(words: &[u32], p: Parsed) -> Plan
 }
 
 // Writes the pairs that a done show or withdraw lists into the room, and says how many there are; any other line lists none.
-fn listed(words: &[u32], p: Parsed, plan: Plan, room: &mut [u32]) -> u32
+fn list_pairs(words: &[u32], p: Parsed, plan: Plan, room: &mut [u32]) -> u32
     requires { ⌜ (sound (now words) ≡ true) × Plans (asked (decode (now words)) p .answer) (now words) (p .serial) (p .len) plan × (2 * faultsEver ≤ length (now room)) ⌝ }
     ensures { λ r. ⌜ Lists (p .kind) (asked (decode (now (words .entry))) p) r (now (room .exit)) ⌝ }
 {
@@ -70,7 +70,7 @@ fn listed(words: &[u32], p: Parsed, plan: Plan, room: &mut [u32]) -> u32
 }
 
 // Makes the change of a line that goes ahead; any other leaves the words as they are.
-fn made(words: &mut [u32], p: Parsed, plan: Plan)
+fn make_change(words: &mut [u32], p: Parsed, plan: Plan)
     requires { ⌜ (sound (now words) ≡ true) × Plans (asked (decode (now words)) p .answer) (now words) (p .serial) (p .len) plan ⌝ }
     ensures { λ _. ⌜ now (words .exit) ≡ encode (asked (decode (now (words .entry))) p .store) ⌝ }
 {
@@ -133,8 +133,8 @@ pub fn turn(
 {
     let p = fields::parse(line);
     let kind = p.kind;
-    let plan = planned(words, p);
-    let count = listed(words, p, plan, room);
+    let plan = plan_line(words, p);
+    let count = list_pairs(words, p, plan, room);
     let long = answer_len(plan, count, room);
     if out.len() < at + long {
         return Turned {
@@ -144,13 +144,13 @@ pub fn turn(
         };
     }
     let before = plans::buckets(words);
-    made(words, p, plan);
+    make_change(words, p, plan);
     let after = plans::buckets(words);
     let end = put_answer(out, at, plan, count, room);
     Turned {
         fits: true,
         end,
-        tally: tally::counted(
+        tally: tally::count(
             tally,
             kind,
             plan.number == 0,

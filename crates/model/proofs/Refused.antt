@@ -95,7 +95,7 @@ done-changes w scratch a c =
     rw ok (λ z u. done-act (decode w) g a c z (sym (read-back s (good-act (decode w) g a .fair)) ∙ ap decode u)))
     (λ no. rw no (λ z u. omega arith))))
 
--- a job that is turned away: no line done, no byte written, and store, output and tally as they were
+-- a job that is refused: no line done, no byte written, and store, output and tally as they were
 pub record Unchanged (w out : List ℕ) (t : Tally) (j : Finished) : Type 0 where
   pub lines : j .lines ≡ 0
   pub bytes : j .bytes ≡ 0

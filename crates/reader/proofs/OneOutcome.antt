@@ -44,6 +44,6 @@ one-call = Store.one-outcome
 pub one-job : (w scratch text out : List ℕ) (t : Tally) (a b : Left) → Works w scratch text out t a → Works w scratch text out t b → a ≡ b
 one-job = Job.one-outcome
 
--- `answered`: how many bytes are written, and all that the array holds
+-- `answer`: how many bytes are written, and all that the array holds
 pub one-text : (input : List ℕ) (m n : ℕ) (a b : List ℕ) → Writes (depotText input) (blank wholeSize) m a → Writes (depotText input) (blank wholeSize) n b → (m ≡ n) × (a ≡ b)
 one-text input m n a b p q = (p .len-is ∙ sym (q .len-is), p .out-is ∙ sym (q .out-is))

@@ -37,7 +37,7 @@ const CLOSING: usize = 9;
 const WHOLE: usize = OUTPUT + CLOSING;
 
 // A fresh store.
-fn fresh() -> [u32; WORDS]
+fn fresh_store() -> [u32; WORDS]
     ensures { λ r. ⌜ r ≡ opened ⌝ }
 {
     let mut words = [0u32; WORDS];
@@ -55,10 +55,10 @@ fn lent_run(words: &mut [u32], scratch: &mut [u8], text: &[u8], out: &mut [u8], 
 }
 
 // One job on a fresh store: how it ended, and its answers at the front of the output.
-fn fresh_job(input: &[u8], out: &mut [u8]) -> Done
+fn run_fresh(input: &[u8], out: &mut [u8]) -> Done
     ensures { λ r. ⌜ Ended (job opened (blank (need depotShape)) (now (input .entry)) (now (out .entry)) nothing) r (now (out .exit)) ⌝ }
 {
-    let mut words = fresh();
+    let mut words = fresh_store();
     let mut scratch = [0u8; store::NEED];
     let none = Tally {
         entries: 0,
@@ -86,11 +86,11 @@ fn close(out: &mut [u8], at: usize, number: u32) -> usize
 }
 
 // The job in the front of the output, and its closing line behind it.
-fn whole(input: &[u8], out: &mut [u8]) -> usize
+fn write_whole(input: &[u8], out: &mut [u8]) -> usize
     requires { ⌜ length (now out) ≡ wholeSize ⌝ }
     ensures { λ r. ⌜ Writes (depotText (now (input .entry))) (now (out .entry)) r (now (out .exit)) ⌝ }
 {
-    let done = fresh_job(input, &mut out[..OUTPUT]);
+    let done = run_fresh(input, &mut out[..OUTPUT]);
     close(out, done.bytes as usize, done.number)
 }
 
@@ -101,10 +101,10 @@ pub struct Text {
 }
 
 // All that `depot` writes for an input.
-pub fn answered(input: &[u8]) -> Text
+pub fn answer(input: &[u8]) -> Text
     ensures { λ r. ⌜ Writes (depotText (now (input .entry))) (blank wholeSize) (r .len) (r .bytes) ⌝ }
 {
     let mut out = [0u8; WHOLE];
-    let len = whole(input, &mut out);
+    let len = write_whole(input, &mut out);
     Text { bytes: out, len }
 }

@@ -10,8 +10,8 @@ use Rattle.depot.proofs.main.Tie as tie
 array-share-prefix-input : tie.Need-array-share-prefix-input
 array-share-prefix-input c = subst (Within _) (c .before .len .given .1) (c .before .before .before .before .read-all .ensures)
 
-slice-aggregate-answer : tie.Need-slice-aggregate-answer
-slice-aggregate-answer c = sym (length-take-le _ _ (array-share-prefix-input (c .before)))
+slice-aggregate-write-answers : tie.Need-slice-aggregate-write-answers
+slice-aggregate-write-answers c = sym (length-take-le _ _ (array-share-prefix-input (c .before)))
 
 pub main-spec : {M : Type 1} → statement M
 main-spec =
@@ -21,7 +21,7 @@ main-spec =
     (λ c κs. search needs)
     (λ c. search needs)
     array-share-prefix-input
-    slice-aggregate-answer
+    slice-aggregate-write-answers
     (λ c κs. search needs)
     (λ c. search needs)
     (λ c. search needs)

@@ -29,14 +29,14 @@ unfolding mostText
 short c = c .if2 .left
 
 returns : tie.Need-returns
-returns c = job-short _ _ _ _ _ (scant (c .before)) (c .refused .ensures)
+returns c = job-short _ _ _ _ _ (scant (c .before)) (c .refuse .ensures)
 
 returns-2 : tie.Need-returns-2
 unfolding mostText
 returns-2 c =
     let k = c .before .before .before in
     let e = k .before .before .before in
-    job-long _ _ _ _ _ (enough e) (k .clear .ensures ∙ ap (λ (n : ℕ). cleaned n (start (e .before) .args .scratch .now)) (e .before .need .ensures)) (k .before .before .if2 .taken) (c .refused2 .ensures)
+    job-long _ _ _ _ _ (enough e) (k .clear .ensures ∙ ap (λ (n : ℕ). cleaned n (start (e .before) .args .scratch .now)) (e .before .need .ensures)) (k .before .before .if2 .taken) (c .refuse2 .ensures)
 
 -- past the test of soundness
 abbrev tested : tie.After-check → tie.Else2
@@ -46,10 +46,10 @@ returns-3 : tie.Need-returns-3
 returns-3 c =
     let k = c .before .before .before .before in
     job-unsound _ _ _ _ _ (enough (tested k .before)) (k .check .ensures .1) (short (tested k)) (sym (k .check .ensures .0) ∙ not-true (k .check .result) (c .before .if3 .taken))
-    (c .refused3 .ensures)
+    (c .refuse3 .ensures)
 
-with-room-requires : tie.Need-with-room-requires
-with-room-requires c κs =
+run-with-room-requires : tie.Need-run-with-room-requires
+run-with-room-requires c κs =
     let i = c .before .before in
     let k = i .before .before .before in
     (sym (k .check .ensures .0) ∙ not-false (k .check .result) (i .if3 .left), short (tested k))
@@ -59,7 +59,7 @@ returns-4 c =
     let r = c .before .before .before .before in
     let i = r .before .before .before in
     let k = i .before .before .before in
-    job-lines _ _ _ _ _ (enough (tested k .before)) (k .check .ensures .1) (short (tested k)) (sym (k .check .ensures .0) ∙ not-false (k .check .result) (i .if3 .left)) (r .with-room .ensures)
+    job-lines _ _ _ _ _ (enough (tested k .before)) (k .check .ensures .1) (short (tested k)) (sym (k .check .ensures .0) ∙ not-false (k .check .result) (i .if3 .left)) (r .run-with-room .ensures)
 
 pub work-spec : {M : Type 1} → statement M
 work-spec =
@@ -79,7 +79,7 @@ work-spec =
     (λ c. search needs)
     (λ c. search needs)
     returns-3
-    with-room-requires
+    run-with-room-requires
     (λ c. search needs)
     (λ c. search needs)
     (λ c. search needs)

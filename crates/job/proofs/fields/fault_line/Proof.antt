@@ -52,7 +52,7 @@ returns-4 c =
     let t = p .before .before .before .before .before .before .before .before .args in
     as-line _ (file (now (t .serial)) (valueFrom 0 (now (t .day))) (valueFrom 0 (now (t .code)))) _
     (four-file (t .op) (now (t .serial)) (now (t .day)) (now (t .code)) (p .before .before .before .before .if1 .left) (day (p .before .before)) (code p))
-    (rw (← (c .before .before .number .ensures), ← (c .before .number2 .ensures)) (c .filled .ensures))
+    (rw (← (c .before .before .number .ensures), ← (c .before .number2 .ensures)) (c .line-of .ensures))
 
 -- in order: the letter, the day's test, the code's test, the two numbers, the line
 pub fault-line-spec : {M : Type 1} → statement M

@@ -10,19 +10,19 @@ returns : tie.Need-returns
 unfolding kindIn serialIn dayIn codeIn
 returns c =
     let t = c .before .before .before .args in
-    as-line _ (enter (now (t .serial))) _ (two-enter (t .op) (now (t .serial)) (c .before .match .keys1)) (c .filled .ensures)
+    as-line _ (enter (now (t .serial))) _ (two-enter (t .op) (now (t .serial)) (c .before .match .keys1)) (c .line-of .ensures)
 
 returns-2 : tie.Need-returns-2
 unfolding kindIn serialIn dayIn codeIn
 returns-2 c =
     let t = c .before .before .before .args in
-    as-line _ (withdraw (now (t .serial))) _ (two-withdraw (t .op) (now (t .serial)) (c .before .match .keys2)) (c .filled2 .ensures)
+    as-line _ (withdraw (now (t .serial))) _ (two-withdraw (t .op) (now (t .serial)) (c .before .match .keys2)) (c .line-of2 .ensures)
 
 returns-3 : tie.Need-returns-3
 unfolding kindIn serialIn dayIn codeIn
 returns-3 c =
     let t = c .before .before .before .args in
-    as-line _ (show (now (t .serial))) _ (two-show (t .op) (now (t .serial)) (c .before .match .keys3)) (c .filled3 .ensures)
+    as-line _ (show (now (t .serial))) _ (two-show (t .op) (now (t .serial)) (c .before .match .keys3)) (c .line-of3 .ensures)
 
 returns-4 : tie.Need-returns-4
 returns-4 c =

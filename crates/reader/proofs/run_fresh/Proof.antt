@@ -1,19 +1,19 @@
--- `reader::fresh_job` meets its contract: the job ran on a fresh store, zero scratch and a tally of nothing.
+-- `reader::run_fresh` meets its contract: the job ran on a fresh store, zero scratch and a tally of nothing.
 use borrow.Author.Needs.{needs}
 use Rattle.model.specs.Shape.{mostCards, mostFaults, need}
 use Rattle.reader.specs.Depot.{blank, nothing}
-use Rattle.reader.proofs.fresh_job.Statement.{statement}
-use Rattle.reader.proofs.fresh_job.Tie as tie
+use Rattle.reader.proofs.run_fresh.Statement.{statement}
+use Rattle.reader.proofs.run_fresh.Tie as tie
 
 returns : tie.Need-returns
 unfolding need mostCards mostFaults blank nothing
 returns c =
     let r = c .before .before .before .before .before in
     let d = r .lent-run .ensures in
-    rw (← (r .before .before .before .before .fresh .ensures)) (record { number-is = d .number-is; bytes-are = d .bytes-are; out-is = d .out-is })
+    rw (← (r .before .before .before .before .fresh-store .ensures)) (record { number-is = d .number-is; bytes-are = d .bytes-are; out-is = d .out-is })
 
-pub fresh-job-spec : {M : Type 1} → statement M
-fresh-job-spec =
+pub run-fresh-spec : {M : Type 1} → statement M
+run-fresh-spec =
     tie.close
     (tie.spec
     (λ c κs. search needs)

@@ -1,12 +1,12 @@
--- `turn::planned` meets its contract: the plan of each kind is that of the step that the kind asks.
+-- `turn::plan_line` meets its contract: the plan of each kind is that of the step that the kind asks.
 use borrow.Author.Needs.{needs}
 use native.Mathlib.Omega.{arith}
 use Rattle.model.proofs.Jobs.{enough-long}
 use Rattle.job.proofs.Asking.{asked-enter, asked-withdraw, asked-file, asked-show, asked-bad}
 use Rattle.model.specs.Layout.{decode}
 use Rattle.model.specs.Job.{enough}
-use Rattle.job.proofs.turn.planned.Statement.{statement}
-use Rattle.job.proofs.turn.planned.Tie as tie
+use Rattle.job.proofs.turn.plan_line.Statement.{statement}
+use Rattle.job.proofs.turn.plan_line.Tie as tie
 
 returns : tie.Need-returns
 returns c = let a = c .before .before .before .before .before .args in rw (asked-enter (decode (a .words .now)) (a .p) (c .before .enum-told .given .1)) (c .plan-enter .ensures)
@@ -26,8 +26,8 @@ returns-5 c =
     let t = c .turned-down .ensures in
     rw (asked-bad (decode (a .words .now)) (a .p) (c .before .enum-told5 .given .1)) (record { answer = t .0; header = t .1; places = λ z. absurd (omega (arith, t .0 .number-is)) })
 
-pub planned-spec : {M : Type 1} → statement M
-planned-spec =
+pub plan-line-spec : {M : Type 1} → statement M
+plan-line-spec =
     tie.close
     (tie.spec
     (λ c. search needs)

@@ -1,10 +1,10 @@
--- `turn::made` meets its contract: what is refused, and what asks for no change, leaves the words; each other kind has its change.
+-- `turn::make_change` meets its contract: what is refused, and what asks for no change, leaves the words; each other kind has its change.
 use mathlib.Core.Path.{_∙_}
 use borrow.Author.Needs.{needs}
 use Rattle.job.proofs.ByKind.{idle}
 use Rattle.job.proofs.Asking.{made-refused, made-none, ready-enter, made-enter, ready-withdraw, made-withdraw, ready-file, made-file}
-use Rattle.job.proofs.turn.made.Statement.{statement}
-use Rattle.job.proofs.turn.made.Tie as tie
+use Rattle.job.proofs.turn.make_change.Statement.{statement}
+use Rattle.job.proofs.turn.make_change.Tie as tie
 
 abbrev start : tie.Else1 → tie.Start
 start c = c .before .before .before
@@ -54,8 +54,8 @@ returns-4 c =
 returns-5 : tie.Need-returns-5
 returns-5 c = let s = start (c .before .before) in made-none _ (s .pre .0) (s .args .p) (idle (s .args .p .kind) (c .match .keys4))
 
-pub made-spec : {M : Type 1} → statement M
-made-spec =
+pub make-change-spec : {M : Type 1} → statement M
+make-change-spec =
     tie.close
     (tie.spec
     returns

@@ -1,11 +1,11 @@
--- `turn::listed` meets its contract: the pairs of a done show or withdraw are those of the card that its plan found, and any other line lists none.
+-- `turn::list_pairs` meets its contract: the pairs of a done show or withdraw are those of the card that its plan found, and any other line lists none.
 use mathlib.Core.Path.{_∙_}
 use borrow.Author.Needs.{needs}
 use Rattle.model.proofs.Sound.{sound-good}
 use Rattle.job.proofs.ByKind.{tells-pairs, silent}
 use Rattle.job.proofs.Asking.{lists-refused, lists-none, holds-pairs, lists-pairs}
-use Rattle.job.proofs.turn.listed.Statement.{statement}
-use Rattle.job.proofs.turn.listed.Tie as tie
+use Rattle.job.proofs.turn.list_pairs.Statement.{statement}
+use Rattle.job.proofs.turn.list_pairs.Tie as tie
 
 abbrev start : tie.Else1 → tie.Start
 start c = c .before .before .before .before
@@ -29,5 +29,5 @@ returns-2 c =
 returns-3 : tie.Need-returns-3
 returns-3 c = let p = start (c .before) .args .p in lists-none _ _ _ (silent (p .kind) (c .match .keys2))
 
-pub listed-spec : {M : Type 1} → statement M
-listed-spec = tie.close (tie.spec returns put-history-requires (λ c. search needs) returns-2 returns-3)
+pub list-pairs-spec : {M : Type 1} → statement M
+list-pairs-spec = tie.close (tie.spec returns put-history-requires (λ c. search needs) returns-2 returns-3)

@@ -1,4 +1,4 @@
--- `job::each_line` meets its contract: at each turn the lines left answer what all lines answer from the start (`Going`). Each line takes a byte of the text,
+-- `job::run_lines` meets its contract: at each turn the lines left answer what all lines answer from the start (`Going`). Each line takes a byte of the text,
 -- which is the measure, and gives at most the longest answer, so both counts fit.
 use mathlib.Core.Path.{_≡_, refl, _∙_}
 use Prim.Native.Nat.{_-_, _≤_, _<_}
@@ -9,8 +9,8 @@ use Rattle.model.specs.Job.{mostText}
 use Rattle.job.specs.Counts.{tallyOf}
 use Rattle.job.proofs.Cursor.{end-from, end-in}
 use Rattle.job.proofs.Going.{Going, going-start, going-end, going-stop, going-on}
-use Rattle.job.proofs.each_line.Statement.{statement}
-use Rattle.job.proofs.each_line.Tie as tie
+use Rattle.job.proofs.run_lines.Statement.{statement}
+use Rattle.job.proofs.run_lines.Tie as tie
 
 abbrev Inv-loop : tie.InvT-loop
 Inv-loop words₀ room₀ text out₀ sum₀ lines₀ bytes₀ at₀ words room out sum lines bytes at =
@@ -72,8 +72,8 @@ loop-again c =
 returns-2 : tie.Need-returns-2 Inv-loop μ-loop
 returns-2 c = going-end _ _ _ _ (c .before .loop .inv .2) (c .loop-test .left)
 
-pub each-line-spec : {M : Type 1} → statement M
-each-line-spec =
+pub run-lines-spec : {M : Type 1} → statement M
+run-lines-spec =
     tie.close
     (tie.spec
     Inv-loop
