@@ -2,7 +2,6 @@
 ghost use Prim.Native.Nat.{_≤_, _<_};
 ghost use lib.ListN.{length};
 use job::Tally;
-use store::layout;
 
 // A head is a letter, nine digits and LF.
 const HEAD: usize = 11;
@@ -157,7 +156,7 @@ fn run_frame(
     match kind {
         b'O' => added(
             s,
-            store::open(words, layout::MOST_CARDS, layout::MOST_FAULTS),
+            store::open(words, store::MOST_CARDS, store::MOST_FAULTS),
             0,
             0,
         ),
@@ -258,10 +257,10 @@ fn print_sums(s: Sums) {
 
 fn main() {
     let mut input = [0u8; 262144];
-    let mut words = [0u32; layout::MOST_WORDS];
+    let mut words = [0u32; store::MOST_WORDS];
     let mut scratch = [0u8; store::NEED];
     let mut out = [0u8; 65536];
-    let mut room = [0u32; 2 * layout::MOST_FAULTS as usize];
+    let mut room = [0u32; 2 * store::MOST_FAULTS as usize];
     let n = io::read_full(0, &mut input);
     let tally = Tally {
         entries: 0,

@@ -16,14 +16,8 @@ use super::fields::Parsed;
 use super::tally;
 use super::tally::Tally;
 use super::text;
-use store::enters;
-use store::files;
-use store::layout;
+use store::Plan;
 use store::numbers;
-use store::plans;
-use store::plans::Plan;
-use store::shows;
-use store::withdraws;
 
 // Whether the answer fitted, where the text ends now, and the tally after the line.
 pub struct Turned {
@@ -33,7 +27,7 @@ pub struct Turned {
 }
 
 // The room that a line is given for pairs: two words for each fault that a store of any format can hold.
-pub const ROOM: usize = 2 * layout::MOST_FAULTS as usize;
+pub const ROOM: usize = 2 * store::MOST_FAULTS as usize;
 
 // The plan of a line, by its kind: 12 for one that is not well formed.
 fn plan_line(words: &[u32], p: Parsed) -> Plan
@@ -43,11 +37,11 @@ fn plan_line(words: &[u32], p: Parsed) -> Plan
     let kind = p.kind;
     let serial = p.serial;
     match kind {
-        Kind::Enter => plans::plan_enter(words, serial, p.len),
-        Kind::Withdraw => plans::plan_withdraw(words, serial, p.len, ROOM),
-        Kind::File => plans::plan_file(words, serial, p.len, p.day, p.code),
-        Kind::Show => plans::plan_show(words, serial, p.len, ROOM),
-        Kind::Bad => plans::turned_down(words, numbers::BAD_LINE),
+        Kind::Enter => store::plan_enter(words, serial, p.len),
+        Kind::Withdraw => store::plan_withdraw(words, serial, p.len, ROOM),
+        Kind::File => store::plan_file(words, serial, p.len, p.day, p.code),
+        Kind::Show => store::plan_show(words, serial, p.len, ROOM),
+        Kind::Bad => store::refuse_early(words, numbers::BAD_LINE),
     }
 }
 
@@ -62,7 +56,7 @@ fn list_pairs(words: &[u32], p: Parsed, plan: Plan, room: &mut [u32]) -> u32
     let kind = p.kind;
     match kind {
         Kind::Withdraw | Kind::Show => {
-            shows::put_history(words, plan, room);
+            store::put_history(words, plan, room);
             plan.faults
         }
         _ => 0,
@@ -80,9 +74,9 @@ fn make_change(words: &mut [u32], p: Parsed, plan: Plan)
     let kind = p.kind;
     let serial = p.serial;
     match kind {
-        Kind::Enter => enters::make_enter(words, serial, p.len, plan),
-        Kind::Withdraw => withdraws::make_withdraw(words, plan),
-        Kind::File => files::make_file(words, plan, p.day, p.code),
+        Kind::Enter => store::make_enter(words, serial, p.len, plan),
+        Kind::Withdraw => store::make_withdraw(words, plan),
+        Kind::File => store::make_file(words, plan, p.day, p.code),
         _ => (),
     }
 }
@@ -143,9 +137,9 @@ pub fn turn(
             tally,
         };
     }
-    let before = plans::buckets(words);
+    let before = store::buckets(words);
     make_change(words, p, plan);
-    let after = plans::buckets(words);
+    let after = store::buckets(words);
     let end = put_answer(out, at, plan, count, room);
     Turned {
         fits: true,

@@ -12,7 +12,6 @@ use job::Ran;
 use job::Tally;
 use job::letters;
 use job::text;
-use store::layout;
 
 // The limits of the store, C and F.
 const CARDS: u32 = 256;
@@ -20,9 +19,9 @@ const CARDS: u32 = 256;
 const FAULTS: u32 = 512;
 
 // The words of a store with these limits: 288 + 9 C + 3 F.
-const WORDS: usize = layout::CARDS_AT
-    + layout::CARD_WIDTH * CARDS as usize
-    + layout::FAULT_WIDTH * FAULTS as usize;
+const WORDS: usize = store::CARDS_AT
+    + store::CARD_WIDTH * CARDS as usize
+    + store::FAULT_WIDTH * FAULTS as usize;
 
 // The most that is read: one byte past the longest job tells a full one from one that is too long.
 pub const INPUT: usize = job::MOST_TEXT + 1;

@@ -23,7 +23,7 @@ returns-4 c = let a = c .before .before .before .before .before .args in rw (ask
 returns-5 : tie.Need-returns-5
 returns-5 c =
     let a = c .before .before .before .before .before .args in
-    let t = c .turned-down .ensures in
+    let t = c .refuse-early .ensures in
     rw (asked-bad (decode (a .words .now)) (a .p) (c .before .enum-told5 .given .1)) (record { answer = t .0; header = t .1; places = λ z. absurd (omega (arith, t .0 .number-is)) })
 
 pub plan-line-spec : {M : Type 1} → statement M
