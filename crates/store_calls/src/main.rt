@@ -17,12 +17,12 @@
 //     P AT VALUE            word AT is set to a value
 //
 // In a serial `_` stands for a zero byte, and the bytes behind a `|` are sent but not counted in the length.
-mod asks;
-mod chains;
-mod desk;
-mod numbered;
-mod sums;
-mod text;
+mod asks; // asks.rt: one call: what is asked, what is left, and how that is told
+mod chains; // chains.rt: the serials of a bucket, read from the words
+mod desk; // desk.rt: the script: each line is done and told
+mod numbered; // numbered.rt: serials by number, and many calls for them
+mod sums; // sums.rt: checksums, and what scratch and room are filled with before a call
+mod text; // text.rt: lines, their fields, and printing
 
 // A script of up to 65,536 bytes, and words for the largest store.
 fn main() {
