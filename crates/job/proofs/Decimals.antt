@@ -87,3 +87,17 @@ decimal-one n h = ap length (decimal-small n h)
 
 pub decimal-less : (n : ℕ) → 10 ≤ n → n < 2 ^ 64 → length (decimal n) ≡ length (decimal (n / 10)) + 1
 decimal-less n h k = ap length (decimal-more n h k) ∙ length-append (decimal (n / 10)) ((48 + n % 10) ∷ [])
+
+-- a power of ten is not 0
+power-some : (k : ℕ) → 1 ≤ 10 ^ k
+power-some zero = omega arith
+power-some (suc k) = omega (arith, power-some k, pow-succ' 10 k)
+
+-- a number from 10 ^ k on and below 10 ^ (k + 1) has k + 1 digits
+pub decimal-long : (k n : ℕ) → 10 ^ k ≤ n → n < 10 ^ suc k → n < 2 ^ 64 → length (decimal n) ≡ suc k
+decimal-long zero n l h b = decimal-one n (omega (arith, h))
+decimal-long (suc k) n l h b =
+    let p = pow-succ' 10 k in
+    let q = pow-succ' 10 (suc k) in
+    let more : 10 ≤ n = omega (arith, l, p, power-some k) in
+    decimal-less n more b ∙ ap (λ (m : ℕ). m + 1) (decimal-long k (n / 10) (omega (arith, l, p)) (omega (arith, h, q)) (omega arith)) ∙ omega arith

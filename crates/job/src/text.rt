@@ -15,17 +15,38 @@ fn digit(d: u32) -> u8
     letters::DIGIT_ZERO + d as u8
 }
 
-// How many digits a number has in decimal: at most ten.
+// How many digits a number has in decimal: at most ten. By comparing; most numbers of an answer are short, and dividing takes longer.
 pub fn decimal_len(n: u32) -> usize
     ensures { λ r. ⌜ Digits n r ⌝ }
 {
-    let mut k: usize = 1;
-    let mut rest = n;
-    while 10 <= rest {
-        rest = rest / 10;
-        k += 1;
+    if n < 10 {
+        return 1;
     }
-    k
+    if n < 100 {
+        return 2;
+    }
+    if n < 1000 {
+        return 3;
+    }
+    if n < 10000 {
+        return 4;
+    }
+    if n < 100000 {
+        return 5;
+    }
+    if n < 1000000 {
+        return 6;
+    }
+    if n < 10000000 {
+        return 7;
+    }
+    if n < 100000000 {
+        return 8;
+    }
+    if n < 1000000000 {
+        return 9;
+    }
+    10
 }
 
 // One byte at `at`; the place behind it.

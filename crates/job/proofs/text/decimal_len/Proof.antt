@@ -1,32 +1,45 @@
--- `job::text::decimal_len` meets its contract. The loop's invariant: the digits counted, less one, with those of the number left are
--- those of the whole. Assumes nothing.
-use mathlib.Core.Path.{_≡_}
-use Prim.Native.Nat.{_+_, _≤_}
+-- `job::text::decimal_len` meets its contract: a number that is not below one power of ten and below the next has the digits of the first. Assumes
+-- nothing.
+use Prim.Native.Nat.{ℕ, suc, _^_, _≤_, _<_}
+use mathlib.Core.Path.{sym}
 use native.Mathlib.Omega.{arith}
-use lib.ListN.{length}
-use Rattle.model.specs.Job.{decimal}
-use Rattle.job.proofs.Decimals.{decimal-one, decimal-less, decimal-most}
+use Rattle.job.specs.Text.{Digits}
+use Rattle.job.proofs.Decimals.{decimal-one, decimal-long}
 use Rattle.job.proofs.text.decimal_len.Statement.{statement}
 use Rattle.job.proofs.text.decimal_len.Tie as tie
 
-abbrev Inv-loop : tie.InvT-loop
-Inv-loop n k₀ rest₀ k rest = (rest ≤ n) × (k + length (decimal rest) ≡ 1 + length (decimal n))
+has : (k n : ℕ) → 10 ^ k ≤ n → n < 10 ^ suc k → n < 2 ^ 32 → k ≤ 9 → Digits n (suc k)
+has k n l h b m = record { is = sym (decimal-long k n l h (omega arith)); most = omega arith }
 
-abbrev μ-loop : tie.MeasureT-loop
-μ-loop n k₀ rest₀ k rest = rest
+returns : tie.Need-returns
+returns c = record { is = sym (decimal-one (c .before .args .n) (omega arith)); most = omega arith }
 
-add-k : tie.Need-add-k Inv-loop μ-loop
-add-k c = omega (arith, decimal-most (c .before .before .args .n) (omega arith))
+returns-2 : tie.Need-returns-2
+returns-2 c = has 1 (c .before .before .args .n) (omega arith) (omega arith) (omega arith) (omega arith)
 
-loop-again : tie.Need-loop-again Inv-loop μ-loop
-loop-again c = (omega arith, omega (arith, decimal-less (c .before .loop .rest) (omega arith) (omega arith)))
+returns-3 : tie.Need-returns-3
+returns-3 c = has 2 (c .before .before .before .args .n) (omega arith) (omega arith) (omega arith) (omega arith)
 
-returns : tie.Need-returns Inv-loop μ-loop
-returns c =
-    let n = c .before .before .args .n in
-    let one = decimal-one (c .before .loop .rest) (omega arith) in
-    record { is = omega arith; most = omega (arith, decimal-most n (omega arith)) }
+returns-4 : tie.Need-returns-4
+returns-4 c = has 3 (c .before .before .before .before .args .n) (omega arith) (omega arith) (omega arith) (omega arith)
 
--- in order: the loop's start, `k + 1`, the measure, a turn, the return
+returns-5 : tie.Need-returns-5
+returns-5 c = has 4 (c .before .before .before .before .before .args .n) (omega arith) (omega arith) (omega arith) (omega arith)
+
+returns-6 : tie.Need-returns-6
+returns-6 c = has 5 (c .before .before .before .before .before .before .args .n) (omega arith) (omega arith) (omega arith) (omega arith)
+
+returns-7 : tie.Need-returns-7
+returns-7 c = has 6 (c .before .before .before .before .before .before .before .args .n) (omega arith) (omega arith) (omega arith) (omega arith)
+
+returns-8 : tie.Need-returns-8
+returns-8 c = has 7 (c .before .before .before .before .before .before .before .before .args .n) (omega arith) (omega arith) (omega arith) (omega arith)
+
+returns-9 : tie.Need-returns-9
+returns-9 c = has 8 (c .before .before .before .before .before .before .before .before .before .args .n) (omega arith) (omega arith) (omega arith) (omega arith)
+
+returns-10 : tie.Need-returns-10
+returns-10 c = has 9 (c .before .before .before .before .before .before .before .before .before .args .n) (omega arith) (omega arith) (omega arith) (omega arith)
+
 pub decimal-len-spec : {M : Type 1} → statement M
-decimal-len-spec = tie.close (tie.spec Inv-loop μ-loop (λ c. (omega arith, omega arith)) add-k (λ c. omega arith) loop-again returns)
+decimal-len-spec = tie.close (tie.spec returns returns-2 returns-3 returns-4 returns-5 returns-6 returns-7 returns-8 returns-9 returns-10)
