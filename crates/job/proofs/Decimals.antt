@@ -1,4 +1,4 @@
--- The digits of a number: `decimal-small` and `decimal-more` take the last digit off, `decimal-most` and `decimal-least` bound
+-- The digits of a number: `decimal-small` and `decimal-more` take the last digit off, `decimal-least` and `decimal-long` tell
 -- how many there are. Assumes nothing.
 use Prim.Native.Nat.{ℕ, zero, suc, _+_, _/_, _%_, _^_, _≤_, _<_}
 use mathlib.Core.Path.{_≡_, refl, sym, ap, _∙_}
@@ -7,7 +7,7 @@ use native.Mathlib.Nat.{pow-succ'}
 use native.Mathlib.Omega.{arith}
 use lib.Dec.{ltb}
 use lib.ListN.{length, length-append}
-use borrow.Author.Tests.{lt-ltb, le-ltb, ltb-false}
+use borrow.Author.Tests.{lt-ltb, le-ltb}
 use Rattle.rules.proofs.Tests.{by-cases}
 use Rattle.model.specs.Job.{digits, decimal}
 
@@ -28,17 +28,7 @@ digits-fuel (suc fuel) n acc h =
     by-cases (ltb n 10) (λ e. rw e)
     (λ e. rw e (digits-fuel fuel (n / 10) ((48 + n % 10) ∷ acc) (omega (arith, pow-succ' 10 (suc fuel)))))
 
--- n < 10 ^ k has at most k digits, and each number has one
-digits-most : (fuel n k : ℕ) (acc : List ℕ) → n < 10 ^ suc k → length (digits fuel n acc) ≤ suc k + length acc
-unfolding digits
-digits-most zero n k acc h = omega arith
-digits-most (suc fuel) n k acc h = by-cases (ltb n 10) (λ e. rw e (omega arith)) (λ e. rw e (go k h (ltb-false n 10 e) (λ j. digits-most fuel (n / 10) j ((48 + n % 10) ∷ acc))))
-  where
-    go : (k : ℕ) → n < 10 ^ suc k → 10 ≤ n → ((j : ℕ) → n / 10 < 10 ^ suc j → length (digits fuel (n / 10) ((48 + n % 10) ∷ acc)) ≤ suc j + suc (length acc))
-        → length (digits fuel (n / 10) ((48 + n % 10) ∷ acc)) ≤ suc k + length acc
-    go zero h g most = absurd (omega arith)
-    go (suc k) h g most = omega (arith, most k (omega (arith, pow-succ' 10 (suc k))))
-
+-- there are digits
 digits-least : (fuel n : ℕ) (acc : List ℕ) → length acc ≤ length (digits fuel n acc)
 unfolding digits
 digits-least zero n acc = omega arith
@@ -72,10 +62,6 @@ decimal-small n h = digits-one 19 n h
 pub decimal-more : (n : ℕ) → 10 ≤ n → n < 2 ^ 64 → decimal n ≡ decimal (n / 10) ++ ((48 + n % 10) ∷ [])
 unfolding decimal
 decimal-more n h k = digits-last 18 n h (omega arith)
-
-pub decimal-most : (n : ℕ) → n < 2 ^ 32 → length (decimal n) ≤ 10
-unfolding decimal
-decimal-most n h = omega (arith, digits-most 20 n 9 [] (omega arith))
 
 pub decimal-least : (n : ℕ) → 0 < length (decimal n)
 unfolding decimal
