@@ -5,15 +5,15 @@ use mathlib.Core.Path.{_≡_, ap, _∙_, sym}
 use mathlib.Core.Bool.{Bool, true, false, cond}
 use mathlib.Core.List.{List}
 use Prim.Native.Nat.{ℕ, suc, _+_, _-_, _*_, _/_, _≤_, _<_}
-use native.Mathlib.Nat.{mul-le-mul}
+use native.Mathlib.Nat.{mul-le-mul, lt-of-lt-of-le}
 use native.Mathlib.Omega.{arith}
 use borrow.Author.Tests.{eq-eqb, ne-eqb}
 use lib.Dec.{eqb}
 use lib.ListN.{length, getD, set, length-set, take, drop}
-use Rattle.model.specs.Bounds.{mostWidth, cardsEver}
+use Rattle.model.specs.Bounds.{leastWidth, mostWidth, cardsEver}
 use Rattle.model.specs.Lists.{between}
 use Rattle.model.specs.Shape.{segmentSize, Shape, entries, topOf, cardWidth}
-use Rattle.model.specs.Layout.{toNext, faultWidth, segmentsAt, cardsAt, faultsAt, lengthFor, shapeOk, cellAt, cardWord, faultWord}
+use Rattle.model.specs.Layout.{directoryAt, toNext, faultWidth, segmentsAt, cardsAt, faultsAt, lengthFor, shapeOk, cellAt, cardWord, faultWord}
 use Rattle.model.proofs.Places.{cellAt-below}
 use Rattle.model.proofs.Shapes.{top-most, entries-some, width-least, width-most, shaped, few-cards, few-faults}
 use Rattle.store.specs.declared.header.Header.{Header}
@@ -57,6 +57,14 @@ part-word : (w : List ℕ) (a b k : ℕ) → a + b + k < length w → getD (take
 part-word w a b k l = getD-take (length w - a) (drop a w) (b + k) 0 (omega arith) ∙ getD-drop a w (b + k) 0 ∙ ap (λ (n : ℕ). getD w n 0) (omega arith)
 
 module _ {w : List ℕ} {h : Header} (s : Sized w h) where
+  -- a word of the header is there, in any words as long
+  pub head-in : (k : ℕ) → k < directoryAt → {n : ℕ} → n ≡ length w → k < n
+  head-in k l e = let r = s .room in omega arith
+
+  -- a card cell has these words
+  pub word-in : (k : ℕ) → k < leastWidth → k < h .width
+  word-in k l = lt-of-lt-of-le l (s .room .wide)
+
   pub bucket-at : (b : ℕ) → h .segments + b ≡ segmentsAt (shapeIn h) + b
   bucket-at b = omega (arith, s .segments)
 

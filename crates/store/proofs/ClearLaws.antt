@@ -82,7 +82,7 @@ pub give-none : (sh : Shape) (w : List ℕ) (i j : ℕ) → i ≡ 0 → w ≡ gi
 unfolding giveWords
 give-none sh w i j z = rw (eq-eqb i 0 z)
 
-pub give-is : {w : List ℕ} {h : Header} → Sized w h → (i j : ℕ) → (i ≡ 0 → ⊥) → {free : ℕ} {w₁ w₂ w₃ : List ℕ} → free ≡ getD w freeFaultsAt 0 → w₁ ≡ clearWords (h .faults) (shapeIn h) w i
-    → w₂ ≡ set w₁ (faultAt (shapeIn h) j toNext) free → w₃ ≡ set w₂ freeFaultsAt i → w₃ ≡ giveWords (shapeIn h) w i j
+pub give-is : {w : List ℕ} {h : Header} → Sized w h → (i j : ℕ) → (i ≡ 0 → ⊥) → {w₁ w₂ : List ℕ} → w₁ ≡ clearWords (h .faults) (shapeIn h) w i
+    → w₂ ≡ set w₁ (faultAt (shapeIn h) j toNext) (getD w freeFaultsAt 0) → set w₂ freeFaultsAt i ≡ giveWords (shapeIn h) w i j
 unfolding giveWords
-give-is s i j ne free e₁ e₂ e₃ = rw (e₃, e₂, e₁, free, ne-eqb i 0 ne)
+give-is s i j ne e₁ e₂ = rw (e₂, e₁, ne-eqb i 0 ne)

@@ -17,7 +17,7 @@ use Rattle.model.specs.Layout.{heldAt, faultsHeldAt, freeAt, freeFaultsAt, toNe
 use Rattle.model.specs.Serial.{validSerial}
 use Rattle.model.specs.Words.{cardAt, faultAt, linkAt, newWords, placeWords, fileWords, giveWords, removeWords}
 use Rattle.store.specs.declared.header.Header.{Header}
-use Rattle.store.specs.Cells.{shapeIn, Sized, packedAll}
+use Rattle.store.specs.Cells.{shapeIn, Sized}
 use Rattle.store.proofs.FindLaws.{valid-length, valid-packed}
 
 -- a run of writes with one more word
@@ -127,23 +127,22 @@ new-words bytes n v =
 
 -- The changes, by the equations that their code goes through
 
-pub place-is : (sh : Shape) (w : List ℕ) (b i : ℕ) (bytes : List ℕ) (n : ℕ) → validSerial bytes n ≡ true → {new next held : ℕ} {key w₁ w₂ w₃ w₄ : List ℕ}
-    → new ≡ getD w freeAt 0 → next ≡ cardWord sh w new toNext → held ≡ getD w heldAt 0 → key ≡ packedAll bytes → w₁ ≡ set w freeAt next
-    → w₂ ≡ sets w₁ (cardAt sh new toNext) (0 ∷ n ∷ getD key 0 0 ∷ getD key 1 0 ∷ getD key 2 0 ∷ getD key 3 0 ∷ 0 ∷ 0 ∷ 0 ∷ [])
-    → w₃ ≡ set w₂ (linkAt sh b i) new → w₄ ≡ set w₃ heldAt (held + 1) → w₄ ≡ placeWords sh w b i (take n bytes)
+pub place-is : (sh : Shape) (w : List ℕ) (b i : ℕ) (bytes : List ℕ) (n : ℕ) → {next : ℕ} {ws w₁ w₂ : List ℕ} → let new = getD w freeAt 0 in
+    next ≡ cardWord sh w new toNext → ws ≡ newWords (take n bytes) → w₁ ≡ sets (set w freeAt next) (cardAt sh new toNext) ws
+    → w₂ ≡ set w₁ (linkAt sh b i) new → set w₂ heldAt (getD w heldAt 0 + 1) ≡ placeWords sh w b i (take n bytes)
 unfolding placeWords
-place-is sh w b i bytes n v new next held key e₁ e₂ e₃ e₄ = rw (e₄, e₃, e₂, e₁, key, held, next, new, new-words bytes n v)
+place-is sh w b i bytes n next ws e₁ e₂ = rw (e₂, e₁, ws, next)
 
-pub file-is : (sh : Shape) (w : List ℕ) (i day code : ℕ) → {new next last count held : ℕ} {w₁ w₂ w₃ w₄ : List ℕ}
-    → new ≡ getD w freeFaultsAt 0 → next ≡ faultWord sh w new toNext → last ≡ cardWord sh w i toLast → count ≡ cardWord sh w i toCount → held ≡ getD w faultsHeldAt 0 → w₁ ≡ set w freeFaultsAt next
-    → w₂ ≡ sets w₁ (faultAt sh new toNext) (0 ∷ day ∷ code ∷ []) → w₃ ≡ set w₂ (cond (eqb last 0) (cardAt sh i toFirst) (faultAt sh last toNext)) new
-    → w₄ ≡ set (set (set w₃ (cardAt sh i toLast) new) (cardAt sh i toCount) (count + 1)) faultsHeldAt (held + 1) → w₄ ≡ fileWords sh w i day code
+pub file-is : (sh : Shape) (w : List ℕ) (i day code : ℕ) → {next last count : ℕ} {w₁ w₂ w₃ : List ℕ} → let new = getD w freeFaultsAt 0 in
+    next ≡ faultWord sh w new toNext → last ≡ cardWord sh w i toLast → count ≡ cardWord sh w i toCount
+    → w₁ ≡ sets (set w freeFaultsAt next) (faultAt sh new toNext) (0 ∷ day ∷ code ∷ []) → w₂ ≡ set w₁ (cond (eqb last 0) (cardAt sh i toFirst) (faultAt sh last toNext)) new
+    → w₃ ≡ set (set (set w₂ (cardAt sh i toLast) new) (cardAt sh i toCount) (count + 1)) faultsHeldAt (getD w faultsHeldAt 0 + 1) → w₃ ≡ fileWords sh w i day code
 unfolding fileWords
-file-is sh w i day code new next last count held e₁ e₂ e₃ e₄ = rw (e₄, e₃, e₂, e₁, held, count, last, next, new)
+file-is sh w i day code next last count e₁ e₂ e₃ = rw (e₃, e₂, e₁, count, last, next)
 
-pub remove-is : (sh : Shape) (w : List ℕ) (b h i : ℕ) {next first last count free cards faults : ℕ} {w₁ w₂ w₃ w₄ : List ℕ} → next ≡ cardWord sh w i toNext → first ≡ cardWord sh w i toFirst
-    → last ≡ cardWord sh w i toLast → count ≡ cardWord sh w i toCount → free ≡ getD w freeAt 0 → cards ≡ getD w heldAt 0 → faults ≡ getD w faultsHeldAt 0 → w₁ ≡ giveWords sh w first last
-    → w₂ ≡ set w₁ (linkAt sh b h) next → w₃ ≡ set (sets w₂ (cardAt sh i toNext) (free ∷ replicate (cardWidth sh - 1) 0)) freeAt i
-    → w₄ ≡ set (set w₃ heldAt (cards - 1)) faultsHeldAt (faults - count) → w₄ ≡ removeWords sh w b h i
+pub remove-is : (sh : Shape) (w : List ℕ) (b h i : ℕ) {next first last count : ℕ} {w₁ w₂ w₃ : List ℕ} → next ≡ cardWord sh w i toNext → first ≡ cardWord sh w i toFirst
+    → last ≡ cardWord sh w i toLast → count ≡ cardWord sh w i toCount → w₁ ≡ giveWords sh w first last → w₂ ≡ set w₁ (linkAt sh b h) next
+    → w₃ ≡ set (sets w₂ (cardAt sh i toNext) (getD w freeAt 0 ∷ replicate (cardWidth sh - 1) 0)) freeAt i
+    → set (set w₃ heldAt (getD w heldAt 0 - 1)) faultsHeldAt (getD w faultsHeldAt 0 - count) ≡ removeWords sh w b h i
 unfolding removeWords
-remove-is sh w b h i next first last count free cards faults e₁ e₂ e₃ e₄ = rw (e₄, e₃, e₂, e₁, faults, cards, free, count, last, first, next)
+remove-is sh w b h i next first last count e₁ e₂ e₃ = rw (e₃, e₂, e₁, count, last, first, next)

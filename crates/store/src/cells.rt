@@ -4,6 +4,7 @@ ghost use mathlib.Core.Bool.{cond};
 ghost use Prim.Native.Nat.{_≤_, _<_};
 ghost use lib.Dec.{eqb};
 ghost use Rattle.model.specs.Layout.{faultWidth, cardWord, faultWord};
+ghost use Rattle.model.specs.Meaning.{bucketWord};
 ghost use Rattle.model.specs.Shape.{cardWidth};
 ghost use Rattle.store.specs.Cells.{shapeIn, Sized, Read, limitOf, widthOf, cellWord, sameKey, metFirst, bytesAt, freeFits, faultFits, cardFits, Suits, cellFits};
 use crate::header;
@@ -16,6 +17,15 @@ pub enum Chain {
     Free,
     Bucket(u32),
     History,
+}
+
+// The word of bucket b: its first cell, 0 for none.
+pub fn bucket_word(w: &[u32], h: Header, b: u32) -> u32
+    requires { ⌜ Sized (now w) h × (b < h .top) ⌝ }
+    ensures { λ r. ⌜ r ≡ bucketWord (shapeIn h) (now (w .entry)) b ⌝ }
+{
+    let segments = h.segments;
+    w[segments + b as usize]
 }
 
 // Word k of card cell i, read in the words from the cards on: the compiler then keeps one address for all k, and adds k where it reads.
@@ -104,6 +114,13 @@ fn same_word(w: &[u32], h: Header, i: u32, j: u32, k: usize) -> bool
     card_word(w, h, i, k) == card_word(w, h, j, k)
 }
 
+// The serial's words behind its first.
+const SECOND: usize = layout::TO_SERIAL + 1;
+
+const THIRD: usize = layout::TO_SERIAL + 2;
+
+const FOURTH: usize = layout::TO_SERIAL + 3;
+
 // Whether two cards have the same serial: its length and its four words.
 pub fn same_key(w: &[u32], h: Header, i: u32, j: u32) -> bool
     requires { ⌜ Sized (now w) h × (1 ≤ i) × (i ≤ h .cards) × (1 ≤ j) × (j ≤ h .cards) ⌝ }
@@ -115,13 +132,13 @@ pub fn same_key(w: &[u32], h: Header, i: u32, j: u32) -> bool
     if !same_word(w, h, i, j, layout::TO_SERIAL) {
         return false;
     }
-    if !same_word(w, h, i, j, layout::TO_SERIAL + 1) {
+    if !same_word(w, h, i, j, SECOND) {
         return false;
     }
-    if !same_word(w, h, i, j, layout::TO_SERIAL + 2) {
+    if !same_word(w, h, i, j, THIRD) {
         return false;
     }
-    same_word(w, h, i, j, layout::TO_SERIAL + 3)
+    same_word(w, h, i, j, FOURTH)
 }
 
 // Whether card i is met from cell `first` on before any other card with its serial.
@@ -154,9 +171,9 @@ pub fn bytes_at(w: &[u32], h: Header, i: u32) -> [u8; 16]
     ensures { λ r. ⌜ r ≡ bytesAt (shapeIn h) (now (w .entry)) i ⌝ }
 {
     let a = card_word(w, h, i, layout::TO_SERIAL);
-    let b = card_word(w, h, i, layout::TO_SERIAL + 1);
-    let d = card_word(w, h, i, layout::TO_SERIAL + 2);
-    let e = card_word(w, h, i, layout::TO_SERIAL + 3);
+    let b = card_word(w, h, i, SECOND);
+    let d = card_word(w, h, i, THIRD);
+    let e = card_word(w, h, i, FOURTH);
     serial::unpack(a, b, d, e)
 }
 
@@ -174,7 +191,7 @@ fn card_fits(w: &[u32], h: Header, b: u32, i: u32) -> bool
     if rules::reader_address(code, h.maxp, h.p) != b {
         return false;
     }
-    met_first(w, h, header::word(w, h.segments + b as usize), i)
+    met_first(w, h, bucket_word(w, h, b), i)
 }
 
 // What cell i has to be, by the chain that it stands in.

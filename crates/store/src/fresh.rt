@@ -5,8 +5,7 @@ ghost use mathlib.Core.List.{_++_};
 ghost use Prim.Native.Nat.{_*_, _<_};
 ghost use lib.ListN.{length, replicate};
 ghost use Rattle.model.specs.Model.{fresh};
-ghost use Rattle.model.specs.Shape.{cardWidth};
-ghost use Rattle.model.specs.Layout.{directoryAt, segmentsAt, cardsAt, faultsAt, header, directory, shapeOk, lengthFor, encode};
+ghost use Rattle.model.specs.Layout.{directoryAt, segmentsAt, header, directory, shapeOk, lengthFor, encode};
 ghost use Rattle.store.specs.Cells.{shapeBy};
 ghost use Rattle.store.specs.Fresh.{behind, leading, cellsTo};
 use crate::layout;
@@ -108,27 +107,7 @@ fn fill_head(part: &mut [u32], s: Shape)
     put_first(&mut part[layout::DIRECTORY_AT..], segments);
 }
 
-// The parts of a fresh store, lent on one after the other from where they begin.
-fn fill_parts(
-    words: &mut [u32],
-    s: Shape,
-    segments: usize,
-    base: usize,
-    behind: usize,
-    width: usize,
-)
-    requires { ⌜ (shapeOk (shapeBy s) ≡ true) × (length (now words) ≡ lengthFor (shapeBy s)) × (segments ≡ segmentsAt (shapeBy s)) × (base ≡ cardsAt (shapeBy s)) × (behind ≡ faultsAt (shapeBy s)) × (width ≡ cardWidth (shapeBy s)) ⌝ }
-    ensures { λ _. ⌜ now (words .exit) ≡ encode (fresh (shapeBy s)) ⌝ }
-{
-    let cards = s.cards;
-    let faults = s.faults;
-    fill_head(&mut words[0..segments], s);
-    clear(&mut words[segments..base]);
-    fill_cells(&mut words[base..behind], width, cards);
-    fill_cells(&mut words[behind..], layout::FAULT_WIDTH, faults);
-}
-
-// All words of a fresh store.
+// All words of a fresh store: its parts are lent on one after the other, from where they begin.
 pub fn fill(words: &mut [u32], s: Shape)
     requires { ⌜ (shapeOk (shapeBy s) ≡ true) × (length (now words) ≡ lengthFor (shapeBy s)) ⌝ }
     ensures { λ _. ⌜ now (words .exit) ≡ encode (fresh (shapeBy s)) ⌝ }
@@ -137,5 +116,10 @@ pub fn fill(words: &mut [u32], s: Shape)
     let base = layout::cards_at(s);
     let behind = layout::faults_at(s);
     let width = layout::card_width(s);
-    fill_parts(words, s, segments, base, behind, width);
+    let cards = s.cards;
+    let faults = s.faults;
+    fill_head(&mut words[0..segments], s);
+    clear(&mut words[segments..base]);
+    fill_cells(&mut words[base..behind], width, cards);
+    fill_cells(&mut words[behind..], layout::FAULT_WIDTH, faults);
 }

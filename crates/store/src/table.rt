@@ -37,9 +37,8 @@ fn part(w: &mut [u32], h: Header)
 {
     let maxp = h.maxp;
     let p = h.p;
-    let segments = h.segments;
     let n = maxp + p;
-    let mut x = header::word(w, segments + p as usize);
+    let mut x = cells::bucket_word(w, h, p);
     let mut k: u32 = 0;
     let mut g: u32 = 0;
     while x != 0 {
@@ -98,12 +97,12 @@ pub fn split(w: &mut [u32], h: Header)
     set_state(w, rules::high_maxp(maxp, p), rules::high_p(maxp, p));
 }
 
-// The last cell of the chain from cell `first` on, 0 for none.
-fn last_from(w: &[u32], h: Header, first: u32) -> u32
-    requires { ⌜ Sized (now w) h × Ends (h .cards) (nextCard (shapeIn h) (now w)) first ⌝ }
-    ensures { λ r. ⌜ r ≡ lastFrom (shapeIn h) (now (w .entry)) first ⌝ }
+// The last cell of bucket b's chain, 0 for none.
+fn last_of(w: &[u32], h: Header, b: u32) -> u32
+    requires { ⌜ Sized (now w) h × (b < h .top) × Ends (h .cards) (nextCard (shapeIn h) (now w)) (bucketWord (shapeIn h) (now w) b) ⌝ }
+    ensures { λ r. ⌜ r ≡ lastFrom (shapeIn h) (now (w .entry)) (bucketWord (shapeIn h) (now (w .entry)) b) ⌝ }
 {
-    let mut i = first;
+    let mut i = cells::bucket_word(w, h, b);
     let mut last: u32 = 0;
     while i != 0 {
         last = i;
@@ -120,11 +119,10 @@ pub fn join(w: &mut [u32], h: Header)
 {
     let maxp = h.maxp;
     let p = h.p;
-    let segments = h.segments;
     let b = rules::low_p(maxp, p);
     let going = maxp + p - 1;
-    let k = last_from(w, h, header::word(w, segments + b as usize));
-    let first = header::word(w, segments + going as usize);
+    let k = last_of(w, h, b);
+    let first = cells::bucket_word(w, h, going);
     writes::link(w, h, b, k, first);
     writes::put_bucket(w, h, going, 0);
     close_bucket(w, h, going);

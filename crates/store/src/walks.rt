@@ -9,7 +9,6 @@ ghost use Rattle.store.specs.Walk.{mayCome, walkOf, walkOn, walksFrom, D
 ghost use Rattle.store.specs.Checker.{Asks, nextIn, firstOf, endFits, startOf, reachOf};
 use crate::cells;
 use crate::cells::Chain;
-use crate::header;
 use crate::header::Header;
 use crate::layout;
 use crate::marks;
@@ -95,7 +94,7 @@ fn first_of(w: &[u32], h: Header, faults: bool, j: u32) -> u32
     if faults {
         cells::card_word(w, h, j + 1, layout::TO_FIRST)
     } else {
-        header::word(w, h.segments + j as usize)
+        cells::bucket_word(w, h, j)
     }
 }
 

@@ -9,15 +9,14 @@ ghost use lib.ListN.{length, set, take, replicate};
 ghost use lib.Seq.{sets};
 ghost use Rattle.model.specs.Bounds.{leastWidth};
 ghost use Rattle.model.specs.Serial.{validSerial};
-ghost use Rattle.model.specs.Layout.{heldAt, faultsHeldAt, freeAt, toNext, toFirst, toLast, toCount, segmentsAt, faultWidth, follow, last as lastOf};
+ghost use Rattle.model.specs.Layout.{faultsHeldAt, freeAt, toNext, toFirst, toLast, toCount, segmentsAt, faultWidth, follow, last as lastOf};
 ghost use Rattle.model.specs.Meaning.{nextFault};
-ghost use Rattle.model.specs.Words.{cardAt, faultAt, linkAt, placeWords, fileWords, clearWords, giveWords, removeWords};
+ghost use Rattle.model.specs.Words.{cardAt, faultAt, linkAt, newWords, placeWords, fileWords, clearWords, giveWords, removeWords};
 ghost use Rattle.model.specs.Shape.{cardWidth};
 ghost use Rattle.store.specs.Cells.{shapeIn, Sized};
 ghost use Rattle.store.specs.Search.{Ends};
 ghost use Rattle.store.specs.Writes.{MayPlace, MayFile, MayRemove};
 use crate::cells;
-use crate::header;
 use crate::header::Header;
 use crate::layout;
 use crate::serial;
@@ -74,14 +73,6 @@ fn fill_fault(faults: &mut [u32], i: u32, words: [u32; layout::FAULT_WIDTH])
     ensures { λ _. ⌜ now (faults .exit) ≡ sets (now (faults .entry)) (faultWidth * (i - 1)) words ⌝ }
 {
     write(faults, layout::FAULT_WIDTH * ((i - 1) as usize), &words);
-}
-
-// A word of the header.
-pub fn put_word(w: &mut [u32], at: usize, v: u32)
-    requires { ⌜ at < length (now w) ⌝ }
-    ensures { λ _. ⌜ now (w .exit) ≡ set (now (w .entry)) at v ⌝ }
-{
-    w[at] = v;
 }
 
 // A bucket's word, a word of a cell and a whole cell, in the whole words: each lends its part to the narrow writer.
@@ -142,20 +133,29 @@ pub fn link(w: &mut [u32], h: Header, b: u32, i: u32, v: u32)
     }
 }
 
+// The words of a new card: no cell behind it, its serial, and no faults.
+fn card_words(serial: [u8; 16], len: usize) -> [u32; layout::CARD_WIDTH]
+    requires { ⌜ validSerial serial len ≡ true ⌝ }
+    ensures { λ r. ⌜ r ≡ newWords (take len serial) ⌝ }
+{
+    let n = len as u32;
+    let key = serial::pack(serial);
+    [0, n, key[0], key[1], key[2], key[3], 0, 0, 0]
+}
+
 // A new card takes the first free cell, behind cell `last` of bucket b's chain or as its first.
 pub fn place(w: &mut [u32], h: Header, b: u32, last: u32, serial: [u8; 16], len: usize)
     requires { ⌜ MayPlace (now w) h b last × (validSerial serial len ≡ true) ⌝ }
     ensures { λ _. ⌜ now (w .exit) ≡ placeWords (shapeIn h) (now (w .entry)) b last (take len serial) ⌝ }
 {
-    let new = header::word(w, layout::FREE_AT);
+    let new = w[layout::FREE_AT];
     let next = cells::card_word(w, h, new, layout::TO_NEXT);
-    let held = header::word(w, layout::HELD_AT) + 1;
-    let n = len as u32;
-    let key = serial::pack(serial);
-    put_word(w, layout::FREE_AT, next);
-    put_card_cell(w, h, new, [0, n, key[0], key[1], key[2], key[3], 0, 0, 0]);
+    let held = w[layout::HELD_AT] + 1;
+    let words = card_words(serial, len);
+    w[layout::FREE_AT] = next;
+    put_card_cell(w, h, new, words);
     link(w, h, b, last, new);
-    put_word(w, layout::HELD_AT, held);
+    w[layout::HELD_AT] = held;
 }
 
 // Which fault stands behind fault `last` of the card in cell i: the next word of `last`, or the card's first-fault word where it is 0.
@@ -177,7 +177,7 @@ fn put_counts(w: &mut [u32], h: Header, i: u32, last: u32, count: u32, held: u32
 {
     put_card(w, h, i, layout::TO_LAST, last);
     put_card(w, h, i, layout::TO_COUNT, count);
-    put_word(w, layout::FAULTS_HELD_AT, held);
+    w[layout::FAULTS_HELD_AT] = held;
 }
 
 // A fault takes the first free fault cell, behind the last fault of the card in the cell.
@@ -185,12 +185,12 @@ pub fn file_at(w: &mut [u32], h: Header, cell: u32, day: u32, code: u32)
     requires { ⌜ MayFile (now w) h cell ⌝ }
     ensures { λ _. ⌜ now (w .exit) ≡ fileWords (shapeIn h) (now (w .entry)) cell day code ⌝ }
 {
-    let new = header::word(w, layout::FREE_FAULTS_AT);
+    let new = w[layout::FREE_FAULTS_AT];
     let next = cells::fault_word(w, h, new, layout::TO_NEXT);
     let last = cells::card_word(w, h, cell, layout::TO_LAST);
     let count = cells::card_word(w, h, cell, layout::TO_COUNT) + 1;
-    let held = header::word(w, layout::FAULTS_HELD_AT) + 1;
-    put_word(w, layout::FREE_FAULTS_AT, next);
+    let held = w[layout::FAULTS_HELD_AT] + 1;
+    w[layout::FREE_FAULTS_AT] = next;
     put_fault_cell(w, h, new, [0, day, code]);
     link_fault(w, h, cell, last, new);
     put_counts(w, h, cell, new, count, held);
@@ -218,10 +218,10 @@ fn give_back(w: &mut [u32], h: Header, first: u32, last: u32)
     if first == 0 {
         return;
     }
-    let free = header::word(w, layout::FREE_FAULTS_AT);
+    let free = w[layout::FREE_FAULTS_AT];
     clear_history(w, h, first);
     put_fault(w, h, last, layout::TO_NEXT, free);
-    put_word(w, layout::FREE_FAULTS_AT, first);
+    w[layout::FREE_FAULTS_AT] = first;
 }
 
 // A card cell goes to the front of the free ones.
@@ -230,16 +230,7 @@ fn free_card(w: &mut [u32], h: Header, i: u32, free: u32)
     ensures { λ _. ⌜ now (w .exit) ≡ set (sets (now (w .entry)) (cardAt (shapeIn h) i toNext) (free ∷ replicate (cardWidth (shapeIn h) - 1) 0)) freeAt i ⌝ }
 {
     put_card_cell(w, h, i, [free, 0, 0, 0, 0, 0, 0, 0, 0]);
-    put_word(w, layout::FREE_AT, i);
-}
-
-// The cards and faults held.
-fn put_held(w: &mut [u32], cards: u32, faults: u32)
-    requires { ⌜ faultsHeldAt < length (now w) ⌝ }
-    ensures { λ _. ⌜ now (w .exit) ≡ set (set (now (w .entry)) heldAt cards) faultsHeldAt faults ⌝ }
-{
-    put_word(w, layout::HELD_AT, cards);
-    put_word(w, layout::FAULTS_HELD_AT, faults);
+    w[layout::FREE_AT] = i;
 }
 
 // The card in the cell, behind cell `prev` of bucket b's chain or its first, is taken out: its faults are given back, the chain passes it
@@ -252,11 +243,12 @@ pub fn remove_at(w: &mut [u32], h: Header, b: u32, prev: u32, cell: u32)
     let first = cells::card_word(w, h, cell, layout::TO_FIRST);
     let last = cells::card_word(w, h, cell, layout::TO_LAST);
     let count = cells::card_word(w, h, cell, layout::TO_COUNT);
-    let free = header::word(w, layout::FREE_AT);
-    let cards = header::word(w, layout::HELD_AT) - 1;
-    let faults = header::word(w, layout::FAULTS_HELD_AT) - count;
+    let free = w[layout::FREE_AT];
+    let cards = w[layout::HELD_AT] - 1;
+    let faults = w[layout::FAULTS_HELD_AT] - count;
     give_back(w, h, first, last);
     link(w, h, b, prev, next);
     free_card(w, h, cell, free);
-    put_held(w, cards, faults);
+    w[layout::HELD_AT] = cards;
+    w[layout::FAULTS_HELD_AT] = faults;
 }

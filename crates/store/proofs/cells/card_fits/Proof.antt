@@ -2,6 +2,7 @@
 use mathlib.Core.Path.{_≡_, sym, _∙_}
 use borrow.Author.Needs.{needs}
 use borrow.Author.Tests.{not-true, not-false, eq-eqb, ne-eqb}
+use lib.Dec.{lit<}
 use lib.ListN.{take, getD}
 use Rattle.rules.specs.Code.{codeOf}
 use Rattle.rules.specs.Table.{addressOf}
@@ -9,6 +10,7 @@ use Rattle.model.specs.Serial.{validSerial}
 use Rattle.model.specs.Layout.{maxpAt, pAt, toLength}
 use Rattle.model.specs.Layout.{cardWord}
 use Rattle.store.specs.Cells.{shapeIn, bytesAt, cardFits}
+use Rattle.store.proofs.CellLaws.{word-in}
 use Rattle.store.proofs.Rows.{and-rest, and-fails}
 use Rattle.store.proofs.cells.card_fits.Statement.{statement}
 use Rattle.store.proofs.cells.card_fits.Tie as tie
@@ -36,24 +38,22 @@ returns-2 c =
 returns-3 : tie.Need-returns-3
 unfolding cardFits
 returns-3 c =
-    let r = c .before .before .before .before .before .before .before .before .before .before .before .pre .0 in
-    sym (and-rest _ (sym (valid (c .before .before .before .before .before .before .before)) ∙ not-false (c .before .before .before .before .before .before .before .valid-serial .result) (c .before .before .before .before .before .before .if1 .left))
-    ∙ and-rest _ (eq-eqb _ _ (sym (address (c .before .before .before .before)) ∙ c .before .before .before .if2 .left))
-    ∙ rw (← (r .sized .segments), ← (c .before .word .ensures)) (sym (c .met-first .ensures)))
+    sym (and-rest _ (sym (valid (c .before .before .before .before .before .before)) ∙ not-false (c .before .before .before .before .before .before .valid-serial .result) (c .before .before .before .before .before .if1 .left))
+    ∙ and-rest _ (eq-eqb _ _ (sym (address (c .before .before .before)) ∙ c .before .before .if2 .left))
+    ∙ rw (← (c .before .bucket-word .ensures)) (sym (c .met-first .ensures)))
 
 pub card-fits-spec : {M : Type 1} → statement M
 card-fits-spec =
     tie.close
     (tie.spec
-    (λ c κs. search needs)
+    (λ c κs. let p = c .before .pre in (p .0 .sized, p .2, p .3, word-in (p .0 .sized) toLength (lit< tt)))
     (λ c. search needs)
-    (λ c κs. search needs)
-    (λ c κs. search needs)
+    (λ c κs. let p = c .before .before .pre in (p .0 .sized, p .2, p .3))
+    (λ c κs. tt)
     returns
-    (λ c κs. search needs)
-    (λ c κs. search needs)
+    (λ c κs. tt)
+    (λ c κs. tt)
     returns-2
-    (λ c. search needs)
-    (λ c κs. search needs)
-    (λ c κs. search needs)
+    (λ c κs. let p = c .before .before .before .before .before .before .before .before .pre in (p .0 .sized, p .1))
+    (λ c κs. let p = c .before .before .before .before .before .before .before .before .before .pre in (p .0 .sized, p .2, p .3))
     returns-3)

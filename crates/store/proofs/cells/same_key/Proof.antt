@@ -1,8 +1,10 @@
 -- `cells::same_key` meets its contract: the five words are tested one after the other.
 use mathlib.Core.Path.{sym, _∙_}
 use borrow.Author.Tests.{not-true, not-false}
-use borrow.Author.Needs.{needs}
+use lib.Dec.{lit<}
+use Rattle.model.specs.Layout.{toLength, toSerial}
 use Rattle.store.specs.Cells.{sameKey}
+use Rattle.store.proofs.CellLaws.{word-in}
 use Rattle.store.proofs.Rows.{and-rest, and-fails}
 use Rattle.store.proofs.cells.same_key.Statement.{statement}
 use Rattle.store.proofs.cells.same_key.Tie as tie
@@ -31,16 +33,13 @@ pub same-key-spec : {M : Type 1} → statement M
 same-key-spec =
     tie.close
     (tie.spec
-    (λ c κs. search needs)
+    (λ c κs. let p = c .before .pre in (p .0, p .1, p .2, p .3, p .4, word-in (p .0) toLength (lit< tt)))
     returns
-    (λ c κs. search needs)
+    (λ c κs. let p = c .before .before .before .pre in (p .0, p .1, p .2, p .3, p .4, word-in (p .0) toSerial (lit< tt)))
     returns-2
-    (λ c. search needs)
-    (λ c κs. search needs)
+    (λ c κs. let p = c .before .before .before .before .before .pre in (p .0, p .1, p .2, p .3, p .4, word-in (p .0) 3 (lit< tt)))
     returns-3
-    (λ c. search needs)
-    (λ c κs. search needs)
+    (λ c κs. let p = c .before .before .before .before .before .before .before .pre in (p .0, p .1, p .2, p .3, p .4, word-in (p .0) 4 (lit< tt)))
     returns-4
-    (λ c. search needs)
-    (λ c κs. search needs)
+    (λ c κs. let p = c .before .before .before .before .before .before .before .before .before .pre in (p .0, p .1, p .2, p .3, p .4, word-in (p .0) 5 (lit< tt)))
     returns-5)

@@ -69,21 +69,21 @@ pub part-fits-spec : {M : Type 1} → statement M
 part-fits-spec =
     tie.close
     (tie.spec
-    (λ c κs. search needs)
-    (λ c κs. search needs)
+    (λ c κs. tt)
+    (λ c κs. tt)
     free-chain-requires
-    (λ c. search needs)
+    (λ c. c .before .before .before .before .free-chain .kept .1 .0)
     returns
-    (λ c κs. search needs)
+    (λ c κs. c .before .before .before .before .before .before .before .before .before .before .pre .1)
     chains-requires
-    (λ c. search needs)
+    (λ c. let all = c .before .before .before .before in all .chains .kept .1 .0 ∙ all .before .before .before .before .before .before .before .free-chain .kept .1 .0)
     returns-2
     held-word-requires
-    (λ c. search needs)
+    (λ c. let all = c .before .before .before .before .before .before .before in all .chains .kept .1 .0 ∙ all .before .before .before .before .before .before .before .free-chain .kept .1 .0)
     returns-3
     (λ c. search needs)
     (λ c. search needs)
     (λ c. search needs)
     (λ c. search needs)
-    (λ c. search needs)
+    (λ c. let all = c .before .before .before .before .before .before .before .before .before in all .chains .kept .1 .0 ∙ all .before .before .before .before .before .before .before .free-chain .kept .1 .0)
     returns-4)

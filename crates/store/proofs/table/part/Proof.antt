@@ -4,24 +4,22 @@ use mathlib.Core.Path.{sym, ap, _∙_}
 use mathlib.Core.List.{List}
 use Prim.Native.Nat.{ℕ, _+_, _≤_}
 use native.Mathlib.Omega.{arith}
-use borrow.Author.Needs.{needs}
+use lib.Dec.{lit<}
 use lib.ListN.{length, set}
-use Rattle.model.specs.Layout.{follow}
+use Rattle.model.specs.Layout.{follow, toNext}
 use Rattle.model.specs.Meaning.{nextCard}
 use Rattle.model.specs.Words.{linkAt}
 use Rattle.store.specs.Cells.{shapeIn}
-use Prim.Native.Nat.{ℕ}
-use lib.ListN.{getD}
-use Rattle.store.proofs.CellLaws.{sized-same, bucket-at}
+use Rattle.store.proofs.CellLaws.{word-in, sized-same}
 use Rattle.store.proofs.PartingLaws.{Parting, part-start, part-long, part-cell, part-go, part-stay, part-end, go-less, stay-less}
 use Rattle.store.proofs.table.part.Statement.{statement}
 use Rattle.store.proofs.table.part.Tie as tie
 
 abbrev Inv-loop : tie.InvT-loop
-Inv-loop w₀ h maxp p segments n x₀ k₀ g₀ w x k g = Parting h w₀ w x k g
+Inv-loop w₀ h maxp p n x₀ k₀ g₀ w x k g = Parting h w₀ w x k g
 
 abbrev μ-loop : tie.MeasureT-loop
-μ-loop w₀ h maxp p segments n x₀ k₀ g₀ w x k g = length (follow (h .cards) (nextCard (shapeIn h) w) x)
+μ-loop w₀ h maxp p n x₀ k₀ g₀ w x k g = length (follow (h .cards) (nextCard (shapeIn h) w) x)
 
 abbrev start : (i : tie.In-loop Inv-loop μ-loop) → tie.Start Inv-loop μ-loop
 start i = i .before .before .before .before .before
@@ -31,10 +29,10 @@ cell : (i : tie.In-loop Inv-loop μ-loop) → (1 ≤ i .before .loop .x) × (i .
 cell i = part-cell (start i .pre) (i .before .loop .inv) (i .loop-test .taken)
 
 loop-holds : tie.Need-loop-holds Inv-loop μ-loop
-loop-holds c = part-start (c .before .before .before .pre) (c .word .ensures ∙ ap (λ (n : ℕ). getD (c .before .before .before .args .w .now) n 0) (bucket-at (c .before .before .before .pre .read .sized) _))
+loop-holds c = part-start (c .before .before .before .pre) (c .bucket-word .ensures)
 
 card-word-requires : tie.Need-card-word-requires Inv-loop μ-loop
-card-word-requires c κs = let i = c .before in (i .before .loop .inv .sized, cell i .0, cell i .1, omega (arith, i .before .loop .inv .sized .room))
+card-word-requires c κs = let i = c .before in (i .before .loop .inv .sized, cell i .0, cell i .1, word-in (i .before .loop .inv .sized) toNext (lit< tt))
 
 moves-requires : tie.Need-moves-requires Inv-loop μ-loop
 moves-requires c κs = let i = c .before .before .before in (i .before .loop .inv .sized, start i .pre .some, omega (arith, start i .pre .room, i .before .loop .inv .sized .room), cell i .0, cell i .1)
@@ -107,10 +105,8 @@ part-spec =
     (tie.spec
     Inv-loop
     μ-loop
-    (λ c. omega (arith, c .before .pre .room, c .before .pre .read .sized .room))
-    (λ c. search needs)
-    (λ c. omega (arith, c .before .before .pre .room, c .before .before .pre .read .sized .room))
-    (λ c κs. omega (arith, c .before .before .pre .room, c .before .before .pre .read .sized .room))
+    (λ c. omega (arith, c .before .pre .room, c .before .pre .read .sized .room .most))
+    (λ c κs. let p = c .before .before .pre in (p .read .sized, omega (arith, p .room)))
     loop-holds
     card-word-requires
     moves-requires

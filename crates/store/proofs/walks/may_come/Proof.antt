@@ -26,10 +26,10 @@ may-come-spec =
     tie.close
     (tie.spec
     returns
-    (λ c. search needs)
+    (λ c. c .before .before .before .pre .2)
     (λ c. search needs)
     add-is-marked
-    (λ c κs. search needs)
+    (λ c κs. let p = c .before .before .before .pre in omega (arith, p .0 .marks, p .0 .scratch, p .2, c .if1 .left))
     returns-2
-    (λ c κs. search needs)
+    (λ c κs. let p = c .before .before .before .before .before .pre in (p .0 .read, p .1, p .2, omega (arith, p .0 .cells, c .before .before .if1 .left)))
     returns-3)

@@ -1,63 +1,75 @@
 -- `writes::file_at` meets its contract: its writes are those of `fileWords`, in that order.
+use mathlib.Core.Path.{refl, _∙_}
 use native.Mathlib.Omega.{arith}
-use borrow.Author.Needs.{needs}
+use lib.Dec.{lit<}
+use lib.ListN.{length-set}
+use Rattle.model.specs.Layout.{faultsHeldAt, freeFaultsAt, toLast, toCount}
 use Rattle.store.specs.Cells.{shapeIn}
-use Rattle.store.proofs.CellLaws.{sized-same}
+use Rattle.store.proofs.CellLaws.{head-in, word-in, sized-same}
 use Rattle.store.proofs.WriteLaws.{file-is}
 use Rattle.store.proofs.writes.file_at.Statement.{statement}
 use Rattle.store.proofs.writes.file_at.Tie as tie
 
 put-fault-cell-requires : tie.Need-put-fault-cell-requires
 put-fault-cell-requires c κs =
-    let taken = c .before .before .before in
-    let new = taken .before .before .before .before .before .before .before .before .before .before in
-    let p = new .before .before .before .pre in
-    (sized-same (p .sized) (taken .put-word .kept .0), omega (arith, new .word .ensures, p .free), omega (arith, new .word .ensures, p .within))
+    let next = c .before .before .before .before .before .before in
+    let s = next .before .before .before .before in
+    let p = s .pre in
+    (sized-same (p .sized) (length-set (s .args .w .now) freeFaultsAt (next .fault-word .result)), p .free, p .within)
 
 link-fault-requires : tie.Need-link-fault-requires
 link-fault-requires c κs =
     let filled = c .before .before .before in
-    let taken = filled .before .before .before .before in
-    let last = taken .before .before .before .before .before .before in
-    let p = last .before .before .before .before .before .before .before .pre in
-    (sized-same (p .sized) (omega (arith, taken .put-word .kept .0, filled .put-fault-cell .kept .0)), omega (arith, last .card-word .ensures, p .last), p .card, p .inside)
+    let last = filled .before .before .before .before .before in
+    let next = last .before .before in
+    let s = next .before .before .before .before in
+    let p = s .pre in
+    (sized-same (p .sized) (filled .put-fault-cell .kept .0 ∙ length-set (s .args .w .now) freeFaultsAt (next .fault-word .result)), omega (arith, last .card-word .ensures, p .last), p .card, p .inside)
 
 put-counts-requires : tie.Need-put-counts-requires
 put-counts-requires c κs =
     let linked = c .before .before .before in
     let filled = linked .before .before .before .before in
-    let taken = filled .before .before .before .before in
-    let p = taken .before .before .before .before .before .before .before .before .before .before .before .before .before .pre in
-    (sized-same (p .sized) (omega (arith, taken .put-word .kept .0, filled .put-fault-cell .kept .0, linked .link-fault .kept .0)), p .card, p .inside)
+    let next = filled .before .before .before .before .before .before .before in
+    let s = next .before .before .before .before in
+    let p = s .pre in
+    (sized-same (p .sized) (linked .link-fault .kept .0 ∙ filled .put-fault-cell .kept .0 ∙ length-set (s .args .w .now) freeFaultsAt (next .fault-word .result)), p .card, p .inside)
+
+same-length : tie.Need-same-length
+same-length c =
+    let counted = c .before .before in
+    let linked = counted .before .before .before .before in
+    let filled = linked .before .before .before .before in
+    let next = filled .before .before .before .before .before .before .before in
+    let a = next .before .before .before .before .args in
+    counted .put-counts .kept .0 ∙ linked .link-fault .kept .0 ∙ filled .put-fault-cell .kept .0 ∙ length-set (a .w .now) freeFaultsAt (next .fault-word .result)
 
 returns : tie.Need-returns
 returns c =
-    let linked = c .before .before .before .before .before .before in
+    let counted = c .before .before in
+    let linked = counted .before .before .before .before in
     let filled = linked .before .before .before .before in
-    let taken = filled .before .before .before .before in
-    let held = taken .before .before in
-    let count = held .before .before in
+    let count = filled .before .before .before in
     let last = count .before .before in
     let next = last .before .before in
-    let new = next .before .before in
-    let s = new .before .before .before in
-    file-is (shapeIn (s .args .h)) (s .args .w .now) (s .args .cell) (s .args .day) (s .args .code) (new .word .ensures) (next .fault-word .ensures) (last .card-word .ensures)
-    (count .card-word2 .ensures) (held .word2 .ensures) (taken .put-word .ensures) (filled .put-fault-cell .ensures) (linked .link-fault .ensures) (c .before .before .put-counts .ensures)
+    let s = next .before .before .before .before in
+    file-is (shapeIn (s .args .h)) (s .args .w .now) (s .args .cell) (s .args .day) (s .args .code) (next .fault-word .ensures) (last .card-word .ensures) (count .card-word2 .ensures)
+    (filled .put-fault-cell .ensures) (linked .link-fault .ensures) (counted .put-counts .ensures)
 
 pub file-at-spec : {M : Type 1} → statement M
 file-at-spec =
     tie.close
     (tie.spec
-    (λ c κs. search needs)
-    (λ c κs. search needs)
-    (λ c κs. search needs)
-    (λ c κs. search needs)
-    (λ c. search needs)
-    (λ c κs. search needs)
-    (λ c. search needs)
-    (λ c κs. search needs)
+    (λ c. head-in (c .before .before .pre .sized) freeFaultsAt (lit< tt) refl)
+    (λ c κs. let p = c .before .before .before .pre in (p .sized, p .free, p .within, lit< tt))
+    (λ c κs. let p = c .before .before .before .before .before .pre in (p .sized, p .card, p .inside, word-in (p .sized) toLast (lit< tt)))
+    (λ c κs. let p = c .before .before .before .before .before .before .before .pre in (p .sized, p .card, p .inside, word-in (p .sized) toCount (lit< tt)))
+    (λ c. let p = c .before .before .before .before .before .before .before .before .pre in omega (arith, c .card-word2 .ensures, p .count, p .sized .room .mostFaults))
+    (λ c. head-in (c .before .before .before .before .before .before .before .before .before .pre .sized) faultsHeldAt (lit< tt) refl)
+    (λ c. let p = c .before .before .before .before .before .before .before .before .before .pre in omega (arith, p .held, p .sized .room .mostFaults))
+    (λ c. head-in (c .before .before .before .before .before .before .before .before .before .pre .sized) freeFaultsAt (lit< tt) refl)
     put-fault-cell-requires
     link-fault-requires
     put-counts-requires
-    (λ c. search needs)
+    same-length
     returns)

@@ -1,9 +1,12 @@
 -- `writes::link` meets its contract: the bucket's word where i is 0, else the next word of cell i.
 use mathlib.Core.Path.{ap, _∙_}
 use Prim.Native.Nat.{ℕ}
-use borrow.Author.Needs.{needs}
+use native.Mathlib.Nat.{pos-of-ne-zero}
+use lib.Dec.{lit<}
 use lib.ListN.{set}
+use Rattle.model.specs.Layout.{toNext}
 use Rattle.store.specs.Cells.{shapeIn}
+use Rattle.store.proofs.CellLaws.{word-in}
 use Rattle.store.proofs.WriteLaws.{link-bucket, link-card}
 use Rattle.store.proofs.writes.link.Statement.{statement}
 use Rattle.store.proofs.writes.link.Tie as tie
@@ -22,9 +25,9 @@ pub link-spec : {M : Type 1} → statement M
 link-spec =
     tie.close
     (tie.spec
-    (λ c κs. search needs)
-    (λ c κs. search needs)
-    (λ c. search needs)
+    (λ c κs. let p = c .before .before .before .pre in (p .0, p .1))
+    (λ c κs. let p = c .before .before .before .pre in (p .0, pos-of-ne-zero (c .before .if1 .left), p .2, word-in (p .0) toNext (lit< tt)))
+    (λ c. c .before .before .put-bucket .kept .0)
     returns
-    (λ c. search needs)
+    (λ c. c .before .before .put-card .kept .0)
     returns-2)
