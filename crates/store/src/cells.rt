@@ -24,8 +24,7 @@ pub fn bucket_word(w: &[u32], h: Header, b: u32) -> u32
     requires { ⌜ Sized (now w) h × (b < h .top) ⌝ }
     ensures { λ r. ⌜ r ≡ bucketWord (shapeIn h) (now (w .entry)) b ⌝ }
 {
-    let segments = h.segments;
-    w[segments + b as usize]
+    w[h.segments + b as usize]
 }
 
 // Word k of card cell i, read in the words from the cards on: the compiler then keeps one address for all k, and adds k where it reads.
@@ -34,10 +33,9 @@ pub fn card_word(w: &[u32], h: Header, i: u32, k: usize) -> u32
     ensures { λ r. ⌜ r ≡ cardWord (shapeIn h) (now (w .entry)) i k ⌝ }
 {
     let base = h.base;
-    let width = h.width;
     let cell = (i - 1) as usize;
     let cards = &w[base..];
-    cards[width * cell + k]
+    cards[h.width * cell + k]
 }
 
 // Word k of fault cell i, in the same way.

@@ -90,11 +90,9 @@ pub fn split(w: &mut [u32], h: Header)
     requires { ⌜ MaySplit (now w) h ⌝ }
     ensures { λ _. ⌜ now (w .exit) ≡ splitWords (shapeIn h) (now (w .entry)) ⌝ }
 {
-    let maxp = h.maxp;
-    let p = h.p;
     part(w, h);
-    open_bucket(w, h, maxp + p);
-    set_state(w, rules::high_maxp(maxp, p), rules::high_p(maxp, p));
+    open_bucket(w, h, h.maxp + h.p);
+    set_state(w, rules::high_maxp(h.maxp, h.p), rules::high_p(h.maxp, h.p));
 }
 
 // The last cell of bucket b's chain, 0 for none.

@@ -91,8 +91,7 @@ pub fn put_card(w: &mut [u32], h: Header, i: u32, k: usize, v: u32)
 {
     let a = h.base;
     let e = h.behind;
-    let width = h.width;
-    set_card(&mut w[a..e], width, i, k, v);
+    set_card(&mut w[a..e], h.width, i, k, v);
 }
 
 pub fn put_card_cell(w: &mut [u32], h: Header, i: u32, words: [u32; layout::CARD_WIDTH])
@@ -101,8 +100,7 @@ pub fn put_card_cell(w: &mut [u32], h: Header, i: u32, words: [u32; layout::CARD
 {
     let a = h.base;
     let e = h.behind;
-    let width = h.width;
-    fill_card(&mut w[a..e], width, i, words);
+    fill_card(&mut w[a..e], h.width, i, words);
 }
 
 pub fn put_fault(w: &mut [u32], h: Header, i: u32, k: usize, v: u32)

@@ -11,19 +11,19 @@ inside : (c : tie.Start) → c .args .h .base + c .args .h .width * (c .args .i 
 inside c = card-in (c .pre .0) _ _ (c .pre .1) (c .pre .2) (c .pre .3)
 
 mul-result : tie.Need-mul-result
-mul-result c = omega (arith, inside (c .before), c .before .pre .0 .room)
+mul-result c = omega (arith, inside (c .before .before), c .before .before .pre .0 .room)
 
 add-result : tie.Need-add-result
-add-result c = omega (arith, inside (c .before), c .before .pre .0 .room)
+add-result c = omega (arith, inside (c .before .before), c .before .before .pre .0 .room)
 
 mul-result-2 : tie.Need-mul-result-2
-mul-result-2 c = omega (arith, inside (c .before), c .before .pre .0 .room)
+mul-result-2 c = omega (arith, inside (c .before .before), c .before .before .pre .0 .room)
 
 shared-slice-read-result : tie.Need-shared-slice-read-result
-shared-slice-read-result c = omega (arith, inside (c .before .before))
+shared-slice-read-result c = omega (arith, inside (c .before .before .before))
 
 returns : tie.Need-returns
-returns c = let p = c .before .before .pre in card-is (p .0) _ _ (p .1) (p .2) (p .3)
+returns c = let p = c .before .before .before .pre in card-is (p .0) _ _ (p .1) (p .2) (p .3)
 
 pub card-word-spec : {M : Type 1} → statement M
 card-word-spec =

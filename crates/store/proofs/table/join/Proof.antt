@@ -3,7 +3,6 @@
 use mathlib.Core.Path.{_∙_}
 use Prim.Native.Nat.{_<_}
 use native.Mathlib.Omega.{arith}
-use borrow.Author.Needs.{needs}
 use Rattle.store.proofs.CellLaws.{sized-same}
 use Rattle.store.proofs.TableLaws.{low-below, join-end, join-words}
 use Rattle.store.proofs.table.join.Statement.{statement}
@@ -69,15 +68,15 @@ pub join-spec : {M : Type 1} → statement M
 join-spec =
     tie.close
     (tie.spec
-    (λ c κs. search needs)
-    (λ c. search needs)
-    (λ c. search needs)
+    (λ c κs. c .before .pre .some)
+    (λ c. let p = c .before .before .pre in omega (arith, p .room, p .read .sized .room .most))
+    (λ c. omega (arith, c .before .before .pre .some))
     last-of-requires
-    (λ c κs. search needs)
+    (λ c κs. let p = c .before .before .before .before .before .pre in (p .read .sized, omega (arith, p .room, p .some)))
     link-requires
     put-bucket-requires
     close-bucket-requires
-    (λ c κs. search needs)
+    (λ c κs. tt)
     set-state-requires
     same-length
     returns)
