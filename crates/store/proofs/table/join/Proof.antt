@@ -1,7 +1,7 @@
 -- `table::join` meets its contract: the chain of the bucket that goes is linked behind the last cell of the other, and its word, the directory
 -- and the state are written, in the order of the definition.
 use mathlib.Core.Path.{_∙_}
-use Prim.Native.Nat.{_<_}
+use Prim.Native.Nat.{_+_, _-_, _<_}
 use native.Mathlib.Omega.{arith}
 use Rattle.store.proofs.CellLaws.{sized-same}
 use Rattle.store.proofs.TableLaws.{low-below, join-end, join-words}
@@ -11,6 +11,10 @@ use Rattle.store.proofs.table.join.Tie as tie
 -- the bucket that the last one was split from is one of the table's
 below : (c : tie.After-low-p) → c .low-p .result < c .before .before .args .h .top
 below c = let a = c .before .before in omega (arith, c .low-p .ensures, low-below (a .args .h .maxp) (a .args .h .p) (a .pre .some), a .pre .room)
+
+-- and so is the one that goes
+gone : (s : tie.Start) → s .args .h .maxp + s .args .h .p - 1 < s .args .h .top
+gone s = omega (arith, s .pre .room, s .pre .some)
 
 last-of-requires : tie.Need-last-of-requires
 last-of-requires c κs = let b = c .before in let p = b .before .before .pre in (p .read .sized, below b, rw (b .low-p .ensures) (p .chain))
@@ -29,15 +33,15 @@ begun l = l .before .before .before .before .before .before .before .before
 put-bucket-requires : tie.Need-put-bucket-requires
 put-bucket-requires c κs =
     let l = c .before .before .before in
-    let p = begun l .pre in
-    (sized-same (p .read .sized) (l .link .kept .0), omega (arith, p .room, p .some))
+    let s = begun l in
+    (sized-same (s .pre .read .sized) (l .link .kept .0), gone s)
 
 close-bucket-requires : tie.Need-close-bucket-requires
 close-bucket-requires c κs =
     let e = c .before .before .before in
     let l = e .before .before .before .before in
-    let p = begun l .pre in
-    (sized-same (p .read .sized) (e .put-bucket .kept .0 ∙ l .link .kept .0), omega (arith, p .room, p .some))
+    let s = begun l in
+    (sized-same (s .pre .read .sized) (e .put-bucket .kept .0 ∙ l .link .kept .0), gone s)
 
 set-state-requires : tie.Need-set-state-requires
 set-state-requires c κs =
@@ -72,7 +76,7 @@ join-spec =
     (λ c. let p = c .before .before .pre in omega (arith, p .room, p .read .sized .room .most))
     (λ c. omega (arith, c .before .before .pre .some))
     last-of-requires
-    (λ c κs. let p = c .before .before .before .before .before .pre in (p .read .sized, omega (arith, p .room, p .some)))
+    (λ c κs. let s = c .before .before .before .before .before in (s .pre .read .sized, gone s))
     link-requires
     put-bucket-requires
     close-bucket-requires

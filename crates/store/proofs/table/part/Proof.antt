@@ -2,7 +2,8 @@
 -- (`Parting`). The measure is what is left of the chain.
 use mathlib.Core.Path.{sym, ap, _∙_}
 use mathlib.Core.List.{List}
-use Prim.Native.Nat.{ℕ, _+_, _≤_}
+use Prim.Native.Nat.{ℕ, _+_, _≤_, _<_}
+use native.Mathlib.Nat.{lt-of-lt-of-le}
 use native.Mathlib.Omega.{arith}
 use lib.Dec.{lit<}
 use lib.ListN.{length, set}
@@ -24,6 +25,10 @@ abbrev μ-loop : tie.MeasureT-loop
 abbrev start : (i : tie.In-loop Inv-loop μ-loop) → tie.Start Inv-loop μ-loop
 start i = i .before .before .before .before .before
 
+-- bucket p is one of the table's
+below : (s : tie.Start Inv-loop μ-loop) → s .args .h .p < s .args .h .top
+below s = omega (arith, s .pre .room)
+
 -- in a turn cell x is a card's
 cell : (i : tie.In-loop Inv-loop μ-loop) → (1 ≤ i .before .loop .x) × (i .before .loop .x ≤ start i .args .h .cards)
 cell i = part-cell (start i .pre) (i .before .loop .inv) (i .loop-test .taken)
@@ -35,7 +40,7 @@ card-word-requires : tie.Need-card-word-requires Inv-loop μ-loop
 card-word-requires c κs = let i = c .before in (i .before .loop .inv .sized, cell i .0, cell i .1, word-in (i .before .loop .inv .sized) toNext (lit< tt))
 
 moves-requires : tie.Need-moves-requires Inv-loop μ-loop
-moves-requires c κs = let i = c .before .before .before in (i .before .loop .inv .sized, start i .pre .some, omega (arith, start i .pre .room, i .before .loop .inv .sized .room), cell i .0, cell i .1)
+moves-requires c κs = let i = c .before .before .before in (i .before .loop .inv .sized, start i .pre .some, lt-of-lt-of-le (start i .pre .room) (i .before .loop .inv .sized .room .most), cell i .0, cell i .1)
 
 link-requires : tie.Need-link-requires Inv-loop μ-loop
 link-requires c κs = let i = c .before .before .before .before .before .before in (i .before .loop .inv .sized, start i .pre .room, i .before .loop .inv .lowG)
@@ -43,7 +48,7 @@ link-requires c κs = let i = c .before .before .before .before .before .before 
 link-requires-2 : tie.Need-link-requires-2 Inv-loop μ-loop
 link-requires-2 c κs =
     let i = c .before .before .before .before .before .before in
-    (i .before .loop .inv .sized, omega (arith, start i .pre .room), i .before .loop .inv .lowK)
+    (i .before .loop .inv .sized, below (start i), i .before .loop .inv .lowK)
 
 loop-less : tie.Need-loop-less Inv-loop μ-loop
 loop-less c =
@@ -75,7 +80,7 @@ link-requires-3 : tie.Need-link-requires-3 Inv-loop μ-loop
 link-requires-3 c κs =
     let a = c .before .before in
     let s = a .before .before .before .before in
-    (a .loop .inv .sized, omega (arith, s .pre .room), a .loop .inv .lowK)
+    (a .loop .inv .sized, below s, a .loop .inv .lowK)
 
 link-requires-4 : tie.Need-link-requires-4 Inv-loop μ-loop
 link-requires-4 c κs =
@@ -106,7 +111,7 @@ part-spec =
     Inv-loop
     μ-loop
     (λ c. omega (arith, c .before .pre .room, c .before .pre .read .sized .room .most))
-    (λ c κs. let p = c .before .before .pre in (p .read .sized, omega (arith, p .room)))
+    (λ c κs. let s = c .before .before in (s .pre .read .sized, below s))
     loop-holds
     card-word-requires
     moves-requires
