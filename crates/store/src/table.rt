@@ -42,8 +42,9 @@ fn part(w: &mut [u32], h: Header)
     let mut k: u32 = 0;
     let mut g: u32 = 0;
     while x != 0 {
-        let next = cells::card_word(w, h, x, layout::TO_NEXT);
-        if moves(w, h, x) {
+        let old: &[u32] = w;
+        let next = cells::card_word(old, h, x, layout::TO_NEXT);
+        if moves(old, h, x) {
             writes::link(w, h, n, g, x);
             g = x;
         } else {
@@ -119,8 +120,9 @@ pub fn join(w: &mut [u32], h: Header)
     let p = h.p;
     let b = rules::low_p(maxp, p);
     let going = maxp + p - 1;
-    let k = last_of(w, h, b);
-    let first = cells::bucket_word(w, h, going);
+    let old: &[u32] = w;
+    let k = last_of(old, h, b);
+    let first = cells::bucket_word(old, h, going);
     writes::link(w, h, b, k, first);
     writes::put_bucket(w, h, going, 0);
     close_bucket(w, h, going);

@@ -183,11 +183,12 @@ pub fn file_at(w: &mut [u32], h: Header, cell: u32, day: u32, code: u32)
     requires { ⌜ MayFile (now w) h cell ⌝ }
     ensures { λ _. ⌜ now (w .exit) ≡ fileWords (shapeIn h) (now (w .entry)) cell day code ⌝ }
 {
-    let new = w[layout::FREE_FAULTS_AT];
-    let next = cells::fault_word(w, h, new, layout::TO_NEXT);
-    let last = cells::card_word(w, h, cell, layout::TO_LAST);
-    let count = cells::card_word(w, h, cell, layout::TO_COUNT) + 1;
-    let held = w[layout::FAULTS_HELD_AT] + 1;
+    let old: &[u32] = w;
+    let new = old[layout::FREE_FAULTS_AT];
+    let next = cells::fault_word(old, h, new, layout::TO_NEXT);
+    let last = cells::card_word(old, h, cell, layout::TO_LAST);
+    let count = cells::card_word(old, h, cell, layout::TO_COUNT) + 1;
+    let held = old[layout::FAULTS_HELD_AT] + 1;
     w[layout::FREE_FAULTS_AT] = next;
     put_fault_cell(w, h, new, [0, day, code]);
     link_fault(w, h, cell, last, new);
@@ -237,13 +238,14 @@ pub fn remove_at(w: &mut [u32], h: Header, b: u32, prev: u32, cell: u32)
     requires { ⌜ MayRemove (now w) h b prev cell ⌝ }
     ensures { λ _. ⌜ now (w .exit) ≡ removeWords (shapeIn h) (now (w .entry)) b prev cell ⌝ }
 {
-    let next = cells::card_word(w, h, cell, layout::TO_NEXT);
-    let first = cells::card_word(w, h, cell, layout::TO_FIRST);
-    let last = cells::card_word(w, h, cell, layout::TO_LAST);
-    let count = cells::card_word(w, h, cell, layout::TO_COUNT);
-    let free = w[layout::FREE_AT];
-    let cards = w[layout::HELD_AT] - 1;
-    let faults = w[layout::FAULTS_HELD_AT] - count;
+    let old: &[u32] = w;
+    let next = cells::card_word(old, h, cell, layout::TO_NEXT);
+    let first = cells::card_word(old, h, cell, layout::TO_FIRST);
+    let last = cells::card_word(old, h, cell, layout::TO_LAST);
+    let count = cells::card_word(old, h, cell, layout::TO_COUNT);
+    let free = old[layout::FREE_AT];
+    let cards = old[layout::HELD_AT] - 1;
+    let faults = old[layout::FAULTS_HELD_AT] - count;
     give_back(w, h, first, last);
     link(w, h, b, prev, next);
     free_card(w, h, cell, free);

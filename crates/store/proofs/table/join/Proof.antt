@@ -21,14 +21,14 @@ last-of-requires c κs = let b = c .before in let p = b .before .before .pre in 
 
 link-requires : tie.Need-link-requires
 link-requires c κs =
-    let k = c .before .before .before in
+    let k = c .before .before in
     let b = k .before .before in
     let p = b .before .before .pre in
     (p .read .sized, below b, join-end p (b .low-p .ensures) (k .last-of .ensures))
 
 -- where the writes begin
 abbrev begun : tie.After-link → tie.Start
-begun l = l .before .before .before .before .before .before .before .before
+begun l = l .before .before .before .before .before .before .before
 
 put-bucket-requires : tie.Need-put-bucket-requires
 put-bucket-requires c κs =
@@ -64,7 +64,7 @@ returns c =
     let e = d .before .before .before .before in
     let l = e .before .before .before .before in
     let q = l .before .before in
-    let k = q .before .before in
+    let k = q .before in
     let b = k .before .before in
     join-words (b .before .before .pre) (b .low-p .ensures) (k .last-of .ensures) (q .bucket-word .ensures) (l .link .ensures) (e .put-bucket .ensures) (d .close-bucket .ensures) (s .before .low-maxp .ensures) (s .set-state .ensures)
 
@@ -76,7 +76,7 @@ join-spec =
     (λ c. let p = c .before .before .pre in omega (arith, p .room, p .read .sized .room .most))
     (λ c. omega (arith, c .before .before .pre .some))
     last-of-requires
-    (λ c κs. let s = c .before .before .before .before .before in (s .pre .read .sized, gone s))
+    (λ c κs. let s = c .before .before .before .before in (s .pre .read .sized, gone s))
     link-requires
     put-bucket-requires
     close-bucket-requires

@@ -40,39 +40,39 @@ card-word-requires : tie.Need-card-word-requires Inv-loop μ-loop
 card-word-requires c κs = let i = c .before in (i .before .loop .inv .sized, cell i .0, cell i .1, word-in (i .before .loop .inv .sized) toNext (lit< tt))
 
 moves-requires : tie.Need-moves-requires Inv-loop μ-loop
-moves-requires c κs = let i = c .before .before .before in (i .before .loop .inv .sized, start i .pre .some, lt-of-lt-of-le (start i .pre .room) (i .before .loop .inv .sized .room .most), cell i .0, cell i .1)
+moves-requires c κs = let i = c .before .before in (i .before .loop .inv .sized, start i .pre .some, lt-of-lt-of-le (start i .pre .room) (i .before .loop .inv .sized .room .most), cell i .0, cell i .1)
 
 link-requires : tie.Need-link-requires Inv-loop μ-loop
-link-requires c κs = let i = c .before .before .before .before .before .before in (i .before .loop .inv .sized, start i .pre .room, i .before .loop .inv .lowG)
+link-requires c κs = let i = c .before .before .before .before .before in (i .before .loop .inv .sized, start i .pre .room, i .before .loop .inv .lowG)
 
 link-requires-2 : tie.Need-link-requires-2 Inv-loop μ-loop
 link-requires-2 c κs =
-    let i = c .before .before .before .before .before .before in
+    let i = c .before .before .before .before .before in
     (i .before .loop .inv .sized, below (start i), i .before .loop .inv .lowK)
 
 loop-less : tie.Need-loop-less Inv-loop μ-loop
 loop-less c =
-    let r = c .before .before .before .before .before .before .before in
+    let r = c .before .before .before .before .before .before in
     let i = r .before .before in
     go-less (start i .pre) (i .before .loop .inv) (i .loop-test .taken) (r .card-word .ensures) (c .before .before .link .ensures)
 
 loop-again : tie.Need-loop-again Inv-loop μ-loop
 loop-again c =
     let t = c .before .before .before .before in
-    let r = t .before .before .before in
+    let r = t .before .before in
     let i = r .before .before in
     part-go (start i .pre) (i .before .loop .inv) (i .loop-test .taken) (r .card-word .ensures) (sym (t .before .moves .ensures) ∙ t .if1 .taken) (c .before .before .link .ensures)
 
 loop-less-2 : tie.Need-loop-less-2 Inv-loop μ-loop
 loop-less-2 c =
-    let r = c .before .before .before .before .before .before .before in
+    let r = c .before .before .before .before .before .before in
     let i = r .before .before in
     stay-less (start i .pre) (i .before .loop .inv) (i .loop-test .taken) (r .card-word .ensures) (c .before .before .link2 .ensures)
 
 loop-again-2 : tie.Need-loop-again-2 Inv-loop μ-loop
 loop-again-2 c =
     let t = c .before .before .before .before in
-    let r = t .before .before .before in
+    let r = t .before .before in
     let i = r .before .before in
     part-stay (start i .pre) (i .before .loop .inv) (i .loop-test .taken) (r .card-word .ensures) (sym (t .before .moves .ensures) ∙ t .if1 .left) (c .before .before .link2 .ensures)
 

@@ -12,7 +12,7 @@ use Rattle.store.proofs.writes.file_at.Tie as tie
 
 put-fault-cell-requires : tie.Need-put-fault-cell-requires
 put-fault-cell-requires c κs =
-    let next = c .before .before .before .before .before .before in
+    let next = c .before .before .before .before in
     let s = next .before .before .before .before in
     let p = s .pre in
     (sized-same (p .sized) (length-set (s .args .w .now) freeFaultsAt (next .fault-word .result)), p .free, p .within)
@@ -20,8 +20,8 @@ put-fault-cell-requires c κs =
 link-fault-requires : tie.Need-link-fault-requires
 link-fault-requires c κs =
     let filled = c .before .before .before in
-    let last = filled .before .before .before .before .before in
-    let next = last .before .before in
+    let last = filled .before .before .before .before in
+    let next = last .before in
     let s = next .before .before .before .before in
     let p = s .pre in
     (sized-same (p .sized) (filled .put-fault-cell .kept .0 ∙ length-set (s .args .w .now) freeFaultsAt (next .fault-word .result)), omega (arith, last .card-word .ensures, p .last), p .card, p .inside)
@@ -30,7 +30,7 @@ put-counts-requires : tie.Need-put-counts-requires
 put-counts-requires c κs =
     let linked = c .before .before .before in
     let filled = linked .before .before .before .before in
-    let next = filled .before .before .before .before .before .before .before in
+    let next = filled .before .before .before .before .before in
     let s = next .before .before .before .before in
     let p = s .pre in
     (sized-same (p .sized) (linked .link-fault .kept .0 ∙ filled .put-fault-cell .kept .0 ∙ length-set (s .args .w .now) freeFaultsAt (next .fault-word .result)), p .card, p .inside)
@@ -40,7 +40,7 @@ same-length c =
     let counted = c .before .before in
     let linked = counted .before .before .before .before in
     let filled = linked .before .before .before .before in
-    let next = filled .before .before .before .before .before .before .before in
+    let next = filled .before .before .before .before .before in
     let a = next .before .before .before .before .args in
     counted .put-counts .kept .0 ∙ linked .link-fault .kept .0 ∙ filled .put-fault-cell .kept .0 ∙ length-set (a .w .now) freeFaultsAt (next .fault-word .result)
 
@@ -50,8 +50,8 @@ returns c =
     let linked = counted .before .before .before .before in
     let filled = linked .before .before .before .before in
     let count = filled .before .before .before in
-    let last = count .before .before in
-    let next = last .before .before in
+    let last = count .before in
+    let next = last .before in
     let s = next .before .before .before .before in
     file-is (shapeIn (s .args .h)) (s .args .w .now) (s .args .cell) (s .args .day) (s .args .code) (next .fault-word .ensures) (last .card-word .ensures) (count .card-word2 .ensures)
     (filled .put-fault-cell .ensures) (linked .link-fault .ensures) (counted .put-counts .ensures)
@@ -60,14 +60,14 @@ pub file-at-spec : {M : Type 1} → statement M
 file-at-spec =
     tie.close
     (tie.spec
-    (λ c. head-in (c .before .before .pre .sized) freeFaultsAt (lit< tt) refl)
+    (λ c. head-in (c .before .before .before .pre .sized) freeFaultsAt (lit< tt) refl)
     (λ c κs. let p = c .before .before .before .pre in (p .sized, p .free, p .within, lit< tt))
-    (λ c κs. let p = c .before .before .before .before .before .pre in (p .sized, p .card, p .inside, word-in (p .sized) toLast (lit< tt)))
-    (λ c κs. let p = c .before .before .before .before .before .before .before .pre in (p .sized, p .card, p .inside, word-in (p .sized) toCount (lit< tt)))
-    (λ c. let p = c .before .before .before .before .before .before .before .before .pre in omega (arith, c .card-word2 .ensures, p .count, p .sized .room .mostFaults))
-    (λ c. head-in (c .before .before .before .before .before .before .before .before .before .pre .sized) faultsHeldAt (lit< tt) refl)
-    (λ c. let p = c .before .before .before .before .before .before .before .before .before .pre in omega (arith, p .held, p .sized .room .mostFaults))
-    (λ c. head-in (c .before .before .before .before .before .before .before .before .before .pre .sized) freeFaultsAt (lit< tt) refl)
+    (λ c κs. let p = c .before .before .before .before .pre in (p .sized, p .card, p .inside, word-in (p .sized) toLast (lit< tt)))
+    (λ c κs. let p = c .before .before .before .before .before .pre in (p .sized, p .card, p .inside, word-in (p .sized) toCount (lit< tt)))
+    (λ c. let p = c .before .before .before .before .before .before .pre in omega (arith, c .card-word2 .ensures, p .count, p .sized .room .mostFaults))
+    (λ c. head-in (c .before .before .before .before .before .before .before .pre .sized) faultsHeldAt (lit< tt) refl)
+    (λ c. let p = c .before .before .before .before .before .before .before .pre in omega (arith, p .held, p .sized .room .mostFaults))
+    (λ c. head-in (c .before .before .before .before .before .before .before .pre .sized) freeFaultsAt (lit< tt) refl)
     put-fault-cell-requires
     link-fault-requires
     put-counts-requires
