@@ -61,7 +61,7 @@ fn held_word(w: &[u32], faults: bool) -> u32
 }
 
 // The walk of the free chain, by a literal too (see `walks::walk_on`).
-fn free_chain(
+fn walk_free(
     w: &[u32],
     scratch: &mut [u8],
     h: Header,
@@ -83,12 +83,12 @@ pub fn part_fits(w: &[u32], scratch: &mut [u8], h: Header, faults: bool) -> bool
 {
     let limit = limit_of(h, faults);
     let base = base_of(h, faults);
-    let free = free_chain(w, scratch, h, faults, base, limit);
+    let free = walk_free(w, scratch, h, faults, base, limit);
     if !free.ok {
         return false;
     }
     let n = chain_count(h, faults);
-    let held = walks::chains(w, scratch, h, faults, base, limit, n);
+    let held = walks::walk_all(w, scratch, h, faults, base, limit, n);
     if !held.ok {
         return false;
     }

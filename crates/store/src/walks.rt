@@ -145,7 +145,7 @@ fn passes(w: &[u32], h: Header, faults: bool, j: u32, t: Walked) -> bool
 }
 
 // The walks of chains 0 to n - 1, one after the other over the same marks.
-pub fn chains(
+pub fn walk_all(
     w: &[u32],
     scratch: &mut [u8],
     h: Header,

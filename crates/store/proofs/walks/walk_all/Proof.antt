@@ -1,4 +1,4 @@
--- `walks::chains` meets its contract: at each turn of the loop, what the walks answer from here is what they answer from the start (`Holding`).
+-- `walks::walk_all` meets its contract: at each turn of the loop, what the walks answer from here is what they answer from the start (`Holding`).
 use mathlib.Core.Path.{sym, _∙_}
 use Prim.Native.Nat.{_-_}
 use native.Mathlib.Omega.{arith}
@@ -6,8 +6,8 @@ use borrow.Author.Tests.{not-true, not-false}
 use Rattle.store.specs.Checker.{nextIn, startOf}
 use Rattle.store.specs.Cells.{shapeIn}
 use Rattle.store.proofs.WalkLaws.{Holding, begins, ends, refuses, kept-long, total-le, carries-on}
-use Rattle.store.proofs.walks.chains.Statement.{statement}
-use Rattle.store.proofs.walks.chains.Tie as tie
+use Rattle.store.proofs.walks.walk_all.Statement.{statement}
+use Rattle.store.proofs.walks.walk_all.Tie as tie
 
 abbrev Inv-loop : tie.InvT-loop
 Inv-loop w scratch₀ h faults base limit n j₀ total₀ scratch j total =
@@ -56,8 +56,8 @@ loop-again c =
 returns-2 : tie.Need-returns-2 Inv-loop μ-loop
 returns-2 c = ends _ _ _ _ _ _ _ _ _ (c .before .loop .inv) (c .loop-test .left)
 
-pub chains-spec : {M : Type 1} → statement M
-chains-spec =
+pub walk-all-spec : {M : Type 1} → statement M
+walk-all-spec =
     tie.close
     (tie.spec
     Inv-loop
