@@ -67,8 +67,8 @@ module _ {w : List ℕ} (e : sound w ≡ true) {h : Header} (q : Read w h) where
     within : b < length (decode w .buckets)
     within = omega (arith, sound-is w e .0 .fair .number, read-store q .1, read-store q .2)
 
-    pub bucket-word : h .segments + b < length w
-    bucket-word = omega (arith, size-room .1, q .sized .room)
+    pub bucket-below : b < h .top
+    bucket-below = omega (arith, size-room .1)
 
     pub bucket-chain : Ends (h .cards) (nextCard (shapeIn h) w) (getD w (segmentsAt (shapeIn h) + b) 0)
     bucket-chain = subst (λ (sh : Shape). Ends (sh .limit) (nextCard sh w) (getD w (segmentsAt sh + b) 0)) shape-is (bucket-ends (sound-is w e .0) b within)

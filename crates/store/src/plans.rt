@@ -117,7 +117,7 @@ fn bucket_len(w: &[u32], h: Header, b: u32) -> u32
     requires { ⌜ (sound (now w) ≡ true) × Read (now w) h × (b < h .maxp + h .p) ⌝ }
     ensures { λ r. ⌜ r ≡ length (bucket (decode (now (w .entry))) b) ⌝ }
 {
-    let first = header::word(w, h.segments + b as usize);
+    let first = cells::bucket_word(w, h, b);
     chain_len(w, h, first)
 }
 

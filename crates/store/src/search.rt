@@ -88,7 +88,7 @@ pub fn find(w: &[u32], serial: [u8; 16], len: usize) -> Spot
     let h = header::header_of(w);
     let code = rules::serial_code(serial, len);
     let b = rules::reader_address(code, h.maxp, h.p);
-    let first = header::word(w, h.segments + b as usize);
+    let first = cells::bucket_word(w, h, b);
     let key = serial::pack(serial);
     let r = search(w, h, first, len as u32, key);
     Spot {

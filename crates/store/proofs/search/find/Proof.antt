@@ -21,29 +21,29 @@ home c =
     let a = start (read c) in
     sound-home _ (a .pre .0) (read c .header-of .ensures) (a .args .serial) (a .args .len) (c .before .serial-code .ensures) (c .reader-address .ensures)
 
-word-requires : tie.Need-word-requires
-word-requires c κs =
-    let h = read (c .before) in
+bucket-word-requires : tie.Need-bucket-word-requires
+bucket-word-requires c κs =
+    let h = read c in
     let a = start h in
-    omega (arith, home-below _ (a .pre .0) (h .header-of .ensures) (a .args .serial) (a .args .len) (home (c .before)), h .header-of .ensures .sized .room)
+    (h .header-of .ensures .sized, home-below _ (a .pre .0) (h .header-of .ensures) (a .args .serial) (a .args .len) (home c))
 
 cast-search : tie.Need-cast-search
-cast-search c = let a = start (read (c .before .before .before)) in omega (arith, valid-short (a .args .serial) (a .args .len) (a .pre .1))
+cast-search c = let a = start (read (c .before .before)) in omega (arith, valid-short (a .args .serial) (a .args .len) (a .pre .1))
 
 search-requires : tie.Need-search-requires
 search-requires c κs =
-    let h = read (c .before .before .before) in
+    let h = read (c .before .before) in
     let a = start h in
     let q = h .header-of .ensures in
-    (q .sized, rw (c .before .word .ensures, q .sized .segments) (home-ends _ (a .pre .0) q (a .args .serial) (a .args .len) (home (c .before .before .before))))
+    (q .sized, rw (c .before .bucket-word .ensures) (home-ends _ (a .pre .0) q (a .args .serial) (a .args .len) (home (c .before .before))))
 
 returns : tie.Need-returns
 returns c =
-    let h = read (c .before .before .before .before) in
+    let h = read (c .before .before .before) in
     let a = start h in
     let q = h .header-of .ensures in
-    home-finds _ (a .pre .0) q (a .args .serial) (a .args .len) (home (c .before .before .before .before)) (a .pre .1) _
-    (rw (← (q .sized .segments), ← (c .before .before .word .ensures), ← (c .before .pack .ensures)) (c .search .ensures))
+    home-finds _ (a .pre .0) q (a .args .serial) (a .args .len) (home (c .before .before .before)) (a .pre .1) _
+    (rw (← (c .before .before .bucket-word .ensures), ← (c .before .pack .ensures)) (c .search .ensures))
 
 pub find-spec : {M : Type 1} → statement M
 find-spec =
@@ -52,9 +52,7 @@ find-spec =
     (λ c κs. search needs)
     (λ c κs. search needs)
     (λ c κs. search needs)
-    (λ c. search needs)
-    (λ c. search needs)
-    word-requires
+    bucket-word-requires
     (λ c κs. search needs)
     cast-search
     search-requires
