@@ -118,7 +118,7 @@ fn write(bytes: &[u8]) -> Result<(), String> {
     io::stdout().write_all(bytes).map_err(|error| error.to_string())
 }
 
-fn next_frame(input: &[u8]) -> Result<(Frame, &[u8]), String> {
+fn next_frame(input: &[u8]) -> Result<(Frame<'_>, &[u8]), String> {
     let cut = || "a frame that is cut short".to_string();
     let head = input.get(..HEAD).ok_or_else(cut)?;
     let number = head_number(head).ok_or("a head without nine digits and LF")?;
