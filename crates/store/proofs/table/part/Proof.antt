@@ -43,7 +43,9 @@ moves-requires : tie.Need-moves-requires Inv-loop μ-loop
 moves-requires c κs = let i = c .before .before in (i .before .loop .inv .sized, start i .pre .some, lt-of-lt-of-le (start i .pre .room) (i .before .loop .inv .sized .room .most), cell i .0, cell i .1)
 
 link-requires : tie.Need-link-requires Inv-loop μ-loop
-link-requires c κs = let i = c .before .before .before .before .before in (i .before .loop .inv .sized, start i .pre .room, i .before .loop .inv .lowG)
+link-requires c κs =
+    let i = c .before .before .before .before .before in
+    (i .before .loop .inv .sized, start i .pre .room, omega (arith, i .before .loop .inv .lowG, cell i .1))
 
 link-requires-2 : tie.Need-link-requires-2 Inv-loop μ-loop
 link-requires-2 c κs =
@@ -87,7 +89,7 @@ link-requires-4 c κs =
     let l = c .before .before .before in
     let a = l .before .before .before in
     let s = a .before .before .before .before in
-    (sized-same (a .loop .inv .sized) (l .link3 .kept .0), s .pre .room, a .loop .inv .lowG)
+    (sized-same (a .loop .inv .sized) (l .link3 .kept .0), s .pre .room, omega (arith, a .loop .inv .lowG))
 
 same-length : tie.Need-same-length Inv-loop μ-loop
 same-length c =
