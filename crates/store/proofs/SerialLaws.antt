@@ -44,16 +44,27 @@ are-alike true false e = sym e
 are-alike false true e = e
 are-alike false false e = refl
 
-pub table-tells : (b : ℕ) → 45 ≤ b → b ≤ 90 → eqb (70368743137273 / 2 ^ (b - 45) % 2) 1 ≡ allowed b
+-- the first and the last byte of the table, and its bits, as the code has them
+abbrev hyphen : ℕ
+hyphen = 45
+
+abbrev lastLetter : ℕ
+lastLetter = 90
+
+abbrev table : ℕ
+table = 70368743137273
+
+pub table-tells : (b : ℕ) → hyphen ≤ b → b ≤ lastLetter → eqb (table / 2 ^ (b - hyphen) % 2) 1 ≡ allowed b
 unfolding allowed between alike
 table-tells b l h =
-    are-alike (eqb (70368743137273 / 2 ^ (b - 45) % 2) 1) (allowed b)
-    (all-from (λ (x : ℕ). alike (eqb (70368743137273 / 2 ^ (x - 45) % 2) 1) (allowed x)) 45 46 refl b l (omega arith))
+    are-alike (eqb (table / 2 ^ (b - hyphen) % 2) 1) (allowed b)
+    (all-from (λ (x : ℕ). alike (eqb (table / 2 ^ (x - hyphen) % 2) 1) (allowed x)) hyphen (suc lastLetter - hyphen) refl b l (omega arith))
 
-pub early-not-allowed : (b : ℕ) → b < 45 → allowed b ≡ false
+pub early-not-allowed : (b : ℕ) → b < hyphen → allowed b ≡ false
 unfolding allowed between alike
-early-not-allowed b h = are-alike (allowed b) false (all-from (λ (x : ℕ). alike (allowed x) false) 0 45 refl b (omega arith) h)
+early-not-allowed b h = are-alike (allowed b) false (all-from (λ (x : ℕ). alike (allowed x) false) 0 hyphen refl b (omega arith) h)
 
-pub late-not-allowed : (b : ℕ) → 90 < b → b < 256 → allowed b ≡ false
+-- bytes are below 2 ^ 8
+pub late-not-allowed : (b : ℕ) → lastLetter < b → b < 2 ^ 8 → allowed b ≡ false
 unfolding allowed between alike
-late-not-allowed b l h = are-alike (allowed b) false (all-from (λ (x : ℕ). alike (allowed x) false) 91 165 refl b l (omega arith))
+late-not-allowed b l h = are-alike (allowed b) false (all-from (λ (x : ℕ). alike (allowed x) false) (suc lastLetter) (2 ^ 8 - suc lastLetter) refl b l (omega arith))
