@@ -46,3 +46,7 @@ badLine = 12
 
 abbrev pub longText : ℕ
 longText = 13
+
+-- a report is asked over no store, or over more than eight
+abbrev pub badStores : ℕ
+badStores = 14

@@ -38,6 +38,8 @@ pub mod Shams
 pub mod PlanLaws
 pub mod MakeLaws
 pub mod CallLaws
+-- The cards of a store one after another
+pub mod OrderLaws
 -- What Open writes
 pub mod FreshLaws
 -- Laws of chains that end, cell by cell, of a chain parted in two, and of the table grown and shrunk

@@ -5,6 +5,7 @@ use Prim.Native.Nat.{ℕ}
 use Rattle.model.specs.Layout.{encode}
 use Rattle.model.specs.Calls.{Answer, Outcome, Step, Opened, admission, swept}
 use Rattle.store.specs.declared.answer.Answer as given
+use Rattle.store.specs.declared.answer.Wrote as wrote
 
 -- number, comparisons, cards scanned and faults are those of an answer
 pub record Gives (a : Answer) (r : given.Answer) : Type 0 where
@@ -12,6 +13,11 @@ pub record Gives (a : Answer) (r : given.Answer) : Type 0 where
   pub comparisons-are : r .comparisons ≡ a .comparisons
   pub scanned-is : r .scanned ≡ a .scanned
   pub faults-are : r .faults ≡ a .faults
+
+-- the number of an operation, and how many words or bytes it wrote
+pub record Tells (number count : ℕ) (r : wrote.Wrote) : Type 0 where
+  pub number-is : r .number ≡ number
+  pub count-is : r .count ≡ count
 
 -- the answer of a call that is refused before it looks at the serial
 abbrev pub refusedAnswer : ℕ → given.Answer

@@ -10,3 +10,4 @@ pub mod Search
 pub mod Writes
 pub mod Fresh
 pub mod Table
+pub mod Order

@@ -1,4 +1,4 @@
-// What each of the four calls gives.
+// What each of the four calls gives, and what each operation above them gives.
 ghost use mathlib.Core.Path.{_≡_};
 ghost use Rattle.store.specs.Leaves.{refusedAnswer};
 
@@ -20,4 +20,10 @@ pub fn refuse(number: u32) -> Answer
         scanned: 0,
         faults: 0,
     }
+}
+
+// What an operation that writes words or bytes gives: its number, and how many it wrote.
+pub struct Wrote {
+    pub number: u32,
+    pub count: u32,
 }

@@ -20,6 +20,7 @@ mod header; // header.rt: the header, read once
 mod layout; // layout.rt: every number of the layout; lengths, offsets and limits of a shape
 mod marks; // marks.rt: which cells were met, a bit each
 pub mod numbers; // numbers.rt: the numbers of refusals
+mod order; // order.rt: the cards of a store one after another, by bucket and chain
 mod parts; // parts.rt: the checker on the cards and on the faults
 mod plans; // plans.rt: a call's whole answer before a word is changed
 mod search; // search.rt: the search of a chain for a serial
@@ -31,6 +32,7 @@ mod withdraws; // withdraws.rt: Withdraw on a sound store
 mod writes; // writes.rt: every write into a sound store
 
 pub use answer::Answer;
+pub use answer::Wrote;
 pub use layout::need;
 pub use marks::clear;
 
@@ -55,6 +57,21 @@ pub use plans::plan_withdraw;
 pub use plans::refuse_early;
 pub use shows::put_history;
 pub use withdraws::make_withdraw;
+
+// The cards of a store known to be sound, one after another, and the words of their cells.
+pub use cells::card_word;
+pub use cells::fault_word;
+pub use header::Header;
+pub use header::header_of;
+pub use layout::FAULTS_HELD_AT;
+pub use layout::HELD_AT;
+pub use layout::TO_CODE;
+pub use layout::TO_DAY;
+pub use layout::TO_FIRST;
+pub use layout::TO_NEXT;
+pub use order::At;
+pub use order::first_card;
+pub use order::next_card;
 
 // Sets a fresh store for C cards and F faults, whatever the words held. Gives 1 where C or F is out of range and 2 where the
 // length is wrong, and then every word stays; else 0.

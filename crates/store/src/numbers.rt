@@ -32,3 +32,6 @@ pub const SHORT_SCRATCH: u32 = 11;
 pub const BAD_LINE: u32 = 12;
 
 pub const LONG_TEXT: u32 = 13;
+
+// A report is asked over no store, or over more than eight.
+pub const BAD_STORES: u32 = 14;
