@@ -86,7 +86,7 @@ def main():
                "first c f = record { format = 1; limit = c; faultLimit = f; upper = 4; lower = 2 }\n")
     out.append("-- the answers to a text on a fresh store with these limits, and the tally of a job that begins with none\n"
                "ran : ℕ → ℕ → List ℕ → Job.Run\nunfolding tallied first\n"
-               "ran c f text = Job.runLines (Job.linesOf text) 16384 (Job.started (Model.fresh (first c f)) (tallied 0 0 0 0 0 0))\n")
+               "ran c f text = Job.runLines (Text.linesOf text) 16384 (Job.started (Model.fresh (first c f)) (tallied 0 0 0 0 0 0))\n")
     out.append("answers : ℕ → ℕ → List ℕ → List ℕ\nunfolding open-all ran tallied first\nanswers c f text = ran c f text .text\n")
 
     # the worked job

@@ -43,8 +43,8 @@ fn lesser(a: usize, b: usize) -> usize
 }
 
 fn number_of(digits: &[u8]) -> u32 {
-    if job::fields::is_number(digits) {
-        job::fields::number(digits)
+    if text::numbers::is_number(digits) {
+        text::numbers::number(digits)
     } else {
         0
     }

@@ -28,7 +28,7 @@ use Rattle.job.specs.declared.fields.Kind.{Kind}
 use Rattle.job.specs.declared.fields.Kind.the-variants.{Bad, Enter, Withdraw, File, Show}
 use Rattle.job.specs.declared.fields.Parsed.{Parsed}
 use Rattle.job.proofs.ByKind.{Silent, Idle}
-use Rattle.job.proofs.Answers.{pairs-only}
+use Rattle.job.proofs.AnswerLaws.{pairs-only}
 use Rattle.model.specs.Shape.{faultsEver}
 
 -- the step by the kind

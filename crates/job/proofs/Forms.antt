@@ -9,12 +9,13 @@ use lib.Seq.{length-take-le}
 use borrow.Author.Tests.{lt-ltb, le-ltb, ne-eqb}
 use Rattle.rules.proofs.Tests.{by-cases}
 use Rattle.model.specs.Lists.{same}
-use Rattle.model.specs.Job.{Line, bad, enter, show, withdraw, file, two, four, fromFields, fields, isNumber, valueFrom, lineOf}
+use Rattle.model.specs.Text.{fields, isNumber, valueFrom}
+use Rattle.model.specs.Job.{Line, bad, enter, show, withdraw, file, two, four, fromFields, lineOf}
 use Rattle.model.proofs.Lists.{same-eq}
-use Rattle.job.specs.Pieces.{pieceEnd, span}
+use Rattle.text.specs.Pieces.{pieceEnd, span}
+use Rattle.text.proofs.Cursor.{span-front, fields-walk, fields-last, fields-some}
 use Rattle.job.specs.Told.{Told}
 use Rattle.job.specs.declared.fields.Parsed.{Parsed}
-use Rattle.job.proofs.Cursor.{span-front, fields-walk, fields-last, fields-some}
 
 -- what is told of a line is told of any line that it equals
 pub as-line : (l m : Line) (p : Parsed) → l ≡ m → Told m p → Told l p

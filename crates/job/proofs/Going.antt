@@ -9,16 +9,17 @@ use native.Mathlib.Omega.{arith}
 use lib.ListN.{length, take, drop, take-append-drop}
 use lib.Seq.{length-take-le}
 use Rattle.model.specs.Layout.{decode, sound}
-use Rattle.model.specs.Job.{linesOf, runLines}
+use Rattle.model.specs.Text.{linesOf}
+use Rattle.model.specs.Job.{runLines}
 use Rattle.model.specs.Job as Job
 use Rattle.model.proofs.Sound.{sound-good}
-use Rattle.job.specs.Pieces.{pieceEnd, span}
+use Rattle.text.specs.Pieces.{pieceEnd, span}
+use Rattle.text.proofs.Cursor.{end-from, end-in, lines-walk, lines-done}
 use Rattle.job.specs.Counts.{tallyOf}
 use Rattle.job.specs.Turns.{longest, turnOf, Turns}
 use Rattle.job.specs.Runs.{linesOn, Ends}
 use Rattle.job.specs.declared.tally.Tally as Held
 use Rattle.job.specs.declared.turn.Turned.{Turned}
-use Rattle.job.proofs.Cursor.{end-from, end-in, lines-walk, lines-done}
 use Rattle.job.proofs.OneLine.{runAt, turn-over, turn-sound, turn-long, turn-inside, turn-rest, turn-on, turn-stop}
 
 -- behind some lines, with the cursor at the next: the words are sound, the output is the text and then what was there, and each line took

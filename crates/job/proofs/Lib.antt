@@ -1,12 +1,8 @@
 -- Laws that the functions' proofs cite, one theme a file
-pub mod Cursor
-pub mod Numbers
 pub mod ByKind
 pub mod Padded
 pub mod Forms
-pub mod Decimals
-pub mod Putting
-pub mod Answers
+pub mod AnswerLaws
 pub mod Counting
 pub mod OneLine
 pub mod Going

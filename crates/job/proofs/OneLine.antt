@@ -19,10 +19,10 @@ use Rattle.model.proofs.Fair.{Good}
 use Rattle.model.proofs.Sound.{good-sound, sound-good}
 use Rattle.model.proofs.Demand3.{good-act}
 use Rattle.model.proofs.Outcomes.{read-back}
+use Rattle.text.proofs.Putting.{put-front, put-rest}
 use Rattle.job.specs.Told.{Told, kindIn, serialIn, dayIn, codeIn}
 use Rattle.job.specs.Turns.{askedAs, asked, listedBy, turnOf}
 use Rattle.job.specs.declared.fields.Parsed.{Parsed}
-use Rattle.job.proofs.Putting.{put-front, put-rest}
 
 -- the step of a line is what is told of it, asked
 pub asked-is : (s : Store) (l : Line) (p : Parsed) → Told l p → asked s p ≡ stepOf s l

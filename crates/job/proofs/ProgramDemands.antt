@@ -16,7 +16,8 @@ use Rattle.model.specs.Layout.{shapeOf, sound, decodeAs, decode}
 use Rattle.model.specs.Calls.{Terms, shapeFor, openCall}
 use Rattle.model.specs.Plain.{Book}
 use Rattle.model.specs.Runs.{Call, run, Event, eventsOf, events, taken, gone, since, Tell, tells, bookAfter, bookTells}
-use Rattle.model.specs.Job.{Line, linesOf, lineOf, padded, answerText}
+use Rattle.model.specs.Text.{linesOf}
+use Rattle.model.specs.Job.{Line, lineOf, padded, answerText}
 use Rattle.model.specs.Deeds.{actsOf, callsOf, stepBy, saidBy, said, wordsBy, wordsByAll, callsIn, callsInAll}
 use Rattle.model.specs.Heard.{numberIn, seenIn, toldIn}
 use Rattle.model.proofs.Demand2.{Agrees, bookOf, emptyBook}

@@ -12,15 +12,16 @@ use Rattle.model.specs.Model.{size}
 use Rattle.model.specs.Layout.{encode, decode, sound}
 use Rattle.model.specs.Calls.{Step}
 use Rattle.model.specs.Job.{lineOf, stepOf, pairText, listed, answerText}
+use Rattle.text.specs.Decimals.{Puts}
 use Rattle.store.specs.Plans.{Plans}
 use Rattle.store.specs.declared.plans.Plan.{Plan}
 use Rattle.job.specs.Told.{Told}
-use Rattle.job.specs.Text.{Puts, AnswerLong, answerOf}
+use Rattle.job.specs.Answers.{AnswerLong, answerOf}
 use Rattle.job.specs.Counts.{tallyOf, countedBy}
 use Rattle.job.specs.Turns.{asked, Lists, turnOf, Turns}
 use Rattle.job.specs.declared.fields.Parsed.{Parsed}
 use Rattle.job.specs.declared.tally.Tally.{Tally}
-use Rattle.job.proofs.Answers.{answer-text}
+use Rattle.job.proofs.AnswerLaws.{answer-text}
 use Rattle.job.proofs.Counting.{counted-by}
 use Rattle.job.proofs.OneLine.{asked-is, listed-by, line-back}
 

@@ -1,7 +1,6 @@
--- What the job's functions say beyond the model's definitions: text in pieces, what a line tells, the text written, the tally, one line, the whole.
-pub mod Pieces
+-- What the job's functions say beyond the model's definitions: what a line tells, the text of an answer, the tally, one line, the whole.
 pub mod Told
-pub mod Text
+pub mod Answers
 pub mod Counts
 pub mod Turns
 pub mod Runs

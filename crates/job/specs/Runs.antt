@@ -4,7 +4,8 @@ use mathlib.Core.List.{List, _++_}
 use Prim.Native.Nat.{ℕ}
 use lib.ListN.{length, drop}
 use Rattle.model.specs.Layout.{encode, decode}
-use Rattle.model.specs.Job.{Run, linesOf, runLines, started, Finished, job}
+use Rattle.model.specs.Text.{linesOf}
+use Rattle.model.specs.Job.{Run, runLines, started, Finished, job}
 use Rattle.model.specs.Job as Job
 use Rattle.job.specs.Counts.{tallyOf}
 use Rattle.job.specs.declared.Done.{Done}

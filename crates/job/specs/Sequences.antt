@@ -6,7 +6,7 @@ use Prim.Native.Nat.{ℕ}
 use lib.ListN.{take}
 use Rattle.model.specs.Plain.{Book}
 use Rattle.model.specs.Runs.{Call, Event, Tell, bookAfter}
-use Rattle.model.specs.Job.{linesOf}
+use Rattle.model.specs.Text.{linesOf}
 use Rattle.model.specs.Deeds.{callsOf, Deed, Deed.calling, Deed.working}
 use Rattle.model.specs.Heard.{seenIn, toldIn}
 use Rattle.store.specs.Sequences as Calls

@@ -1,14 +1,15 @@
 // A line taken apart into its fields.
 ghost use mathlib.Core.Path.{_≡_};
-ghost use mathlib.Core.Bool.{true};
-ghost use Prim.Native.Nat.{_+_, _-_, _*_, _≤_, _<_, min};
+ghost use Prim.Native.Nat.{min};
 ghost use mathlib.Core.List.{[], _∷_};
-ghost use Rattle.model.specs.Lists.{between, all};
-ghost use Rattle.model.specs.Job.{space, digitZero, digitNine, bad, two, four, fromFields, fields, isNumber, valueFrom, padded, lineOf};
+ghost use Rattle.model.specs.Text.{space, fields};
+ghost use Rattle.model.specs.Job.{bad, two, four, fromFields, padded, lineOf};
 ghost use Rattle.job.specs.Told.{Holds, Told};
 use super::letters;
-use super::lines::field_end;
 use rules::SERIAL;
+use text::numbers::is_number;
+use text::numbers::number;
+use text::pieces::field_end;
 
 // What a line asks for: bad is one that is not well formed.
 pub enum Kind {
@@ -29,64 +30,8 @@ pub struct Parsed {
     pub code: u32,
 }
 
-// The longest line without its LF, and the most digits of a number.
+// The longest line without its LF.
 const LONGEST_LINE: usize = 64;
-
-const MOST_DIGITS: usize = 9;
-
-fn is_digit(b: u8) -> bool
-    ensures { λ r. ⌜ r ≡ between digitZero digitNine b ⌝ }
-{
-    letters::DIGIT_ZERO <= b && b <= letters::DIGIT_NINE
-}
-
-fn all_digits(field: &[u8]) -> bool
-    ensures { λ r. ⌜ r ≡ all (between digitZero digitNine) (now (field .entry)) ⌝ }
-{
-    let mut i = 0;
-    while i < field.len() {
-        if !is_digit(field[i]) {
-            return false;
-        }
-        i += 1;
-    }
-    true
-}
-
-// Whether a field is 1 to 9 digits.
-pub fn is_number(field: &[u8]) -> bool
-    ensures { λ r. ⌜ r ≡ isNumber (now (field .entry)) ⌝ }
-{
-    if field.len() < 1 {
-        return false;
-    }
-    if MOST_DIGITS < field.len() {
-        return false;
-    }
-    all_digits(field)
-}
-
-// The value v with one digit more.
-fn with_digit(v: u32, digit: u8) -> u32
-    requires { ⌜ (v < 100000000) × (digitZero ≤ digit) × (digit ≤ digitNine) ⌝ }
-    ensures { λ r. ⌜ r ≡ 10 * v + (digit - digitZero) ⌝ }
-{
-    10 * v + (digit - letters::DIGIT_ZERO) as u32
-}
-
-// The value of a number field, below 10 ^ 9.
-pub fn number(field: &[u8]) -> u32
-    requires { ⌜ isNumber (now field) ≡ true ⌝ }
-    ensures { λ r. ⌜ r ≡ valueFrom 0 (now (field .entry)) ⌝ }
-{
-    let mut v: u32 = 0;
-    let mut i = 0;
-    while i < field.len() {
-        v = with_digit(v, field[i]);
-        i += 1;
-    }
-    v
-}
 
 fn lesser(a: usize, b: usize) -> usize
     ensures { λ r. ⌜ r ≡ min a b ⌝ }

@@ -9,15 +9,15 @@ ghost use Rattle.model.specs.Job.{mostText};
 ghost use Rattle.job.specs.Runs.{linesOn, Ends, refusedRan, Did};
 ghost use Rattle.job.specs.Counts.{tallyOf};
 
+pub mod answers; // answers.rt: answers as text
 pub mod fields; // fields.rt: a line taken apart into its fields
 pub mod letters; // letters.rt: the bytes of a line, by name
-mod lines; // lines.rt: where a line or a field ends
 pub mod tally; // tally.rt: what a job counts
-pub mod text; // text.rt: numbers and answers as text
 mod turn; // turn.rt: one line, from its bytes to its answer
 
 use store::numbers;
 pub use tally::Tally;
+use text::pieces;
 
 // How a job ended: its number, 0 if all lines were answered, the lines done and the bytes written.
 pub struct Done {
@@ -45,7 +45,7 @@ fn run_lines(words: &mut [u32], room: &mut [u32], text: &[u8], out: &mut [u8], t
     let mut bytes: usize = 0;
     let mut at: usize = 0;
     while at < text.len() {
-        let end = lines::line_end(text, at);
+        let end = pieces::line_end(text, at);
         let t = turn::turn(words, room, &text[at..end], out, bytes, sum);
         if !t.fits {
             return Ran {

@@ -6,16 +6,17 @@ ghost use Prim.Native.Nat.{_+_, _*_, _≤_};
 ghost use lib.ListN.{length};
 ghost use Rattle.model.specs.Layout.{decode, encode, sound};
 ghost use Rattle.model.specs.Shape.{faultsEver};
+ghost use Rattle.text.specs.Decimals.{Puts};
 ghost use Rattle.store.specs.Plans.{Plans};
 ghost use Rattle.job.specs.Counts.{tallyOf};
-ghost use Rattle.job.specs.Text.{Puts, AnswerLong, answerOf};
+ghost use Rattle.job.specs.Answers.{AnswerLong, answerOf};
 ghost use Rattle.job.specs.Turns.{asked, Lists, turnOf, Turns};
+use super::answers;
 use super::fields;
 use super::fields::Kind;
 use super::fields::Parsed;
 use super::tally;
 use super::tally::Tally;
-use super::text;
 use store::Plan;
 use store::numbers;
 
@@ -86,7 +87,7 @@ fn answer_len(plan: Plan, count: u32, room: &[u32]) -> usize
     requires { ⌜ 2 * count ≤ length (now room) ⌝ }
     ensures { λ r. ⌜ AnswerLong (answerOf (plan .number) (plan .comparisons) (plan .scanned) (plan .faults) count (now (room .entry))) count r ⌝ }
 {
-    text::answer_len(
+    answers::answer_len(
         plan.number,
         plan.comparisons,
         plan.scanned,
@@ -101,7 +102,7 @@ fn put_answer(out: &mut [u8], at: usize, plan: Plan, count: u32, room: &[u32]) -
     requires { ⌜ (2 * count ≤ length (now room)) × (at + length (answerOf (plan .number) (plan .comparisons) (plan .scanned) (plan .faults) count (now room)) ≤ length (now out)) ⌝ }
     ensures { λ r. ⌜ Puts (now (out .entry)) at (answerOf (plan .number) (plan .comparisons) (plan .scanned) (plan .faults) count (now (room .entry))) r (now (out .exit)) ⌝ }
 {
-    text::put_answer(
+    answers::put_answer(
         out,
         at,
         plan.number,

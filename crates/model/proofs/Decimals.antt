@@ -11,7 +11,7 @@ use lib.Dec.{ltb}
 use lib.ListN.{length, getD}
 use borrow.Author.Tests.{ltb-true, ltb-false}
 use Rattle.rules.proofs.Tests.{by-cases, lt?}
-use Rattle.model.specs.Job.{valueFrom, digits, decimal}
+use Rattle.model.specs.Text.{valueFrom, digits, decimal}
 use Rattle.model.proofs.Lists.{Every, every-imp}
 use Rattle.model.proofs.Fields.{Without}
 

@@ -17,7 +17,8 @@ use Rattle.model.specs.Shape.{Shape, need}
 use Rattle.model.specs.Layout.{shapeOf, encode, decodeAs, decode, sound}
 use Rattle.model.specs.Calls.{Terms, shapeFor, Step, openCall}
 use Rattle.model.specs.Runs.{Act, perform, Call, Call.acting, wordsAfter, run, events, taken, gone, since}
-use Rattle.model.specs.Job.{Line, linesOf, padded, lineOf, enough, stepOf, answerText, Tally, counted, Run, runLines, started, Finished, mostText, job}
+use Rattle.model.specs.Text.{linesOf}
+use Rattle.model.specs.Job.{Line, padded, lineOf, enough, stepOf, answerText, Tally, counted, Run, runLines, started, Finished, mostText, job}
 use Rattle.model.specs.Deeds.{actsOf, tidy, callsBy, callsOf, stepBy, saidBy, said, Deed, Deed.calling, Deed.working, wordsBy, wordsByAll, callsIn, callsInAll}
 use Rattle.model.proofs.Look.{look}
 use Rattle.model.proofs.Sound.{sound-good}

@@ -9,7 +9,7 @@ use lib.Dec.{eqb}
 use lib.ListN.{length}
 use borrow.Author.Tests.{eqb-true, eqb-false, eq-eqb, ne-eqb}
 use Rattle.rules.proofs.Tests.{by-cases}
-use Rattle.model.specs.Job.{onto, fields, dropEmptyLast, linesOf}
+use Rattle.model.specs.Text.{onto, fields, dropEmptyLast, linesOf}
 use Rattle.model.proofs.Lists.{Every}
 
 -- b stands nowhere in l

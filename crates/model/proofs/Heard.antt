@@ -20,7 +20,8 @@ use Rattle.model.specs.Model.{Fault, Card, Store, histories, addressIn, 
 use Rattle.model.specs.Layout.{shapeOf, decode, sound, goodCard}
 use Rattle.model.specs.Calls.{Answer, Step, pairs, written}
 use Rattle.model.specs.Runs.{Call, Call.acting, wordsAfter, run, Event, Event.answered, eventsOf, events, Tell, tells}
-use Rattle.model.specs.Job.{fields, linesOf, Line, bad, enter, show, withdraw, file, padded, lineOf, enough, stepOf, decimal, pairText, listed, answerText}
+use Rattle.model.specs.Text.{fields, linesOf, decimal}
+use Rattle.model.specs.Job.{Line, bad, enter, show, withdraw, file, padded, lineOf, enough, stepOf, pairText, listed, answerText}
 use Rattle.model.specs.Deeds.{actsOf, tidy, callsBy, callsOf, stepBy, saidBy, said}
 use Rattle.model.specs.Heard.{numberIn, faultsIn, pairsBy, pairsIn, heard, Heard, heardIn, seenIn, toldIn}
 use Rattle.model.proofs.Jobs.{history-fits}

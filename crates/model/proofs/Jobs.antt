@@ -19,7 +19,8 @@ use Rattle.model.specs.Layout.{shapeOf, decode, sound}
 use Rattle.model.specs.Calls.{cleaned}
 use Rattle.model.specs.Runs.{Act, perform, run}
 use Rattle.model.specs.Runs as Runs
-use Rattle.model.specs.Job.{linesOf, Line, bad, enter, show, withdraw, file, lineOf, padded, enough, stepOf, answerText, Tally, Run, runLines, started, Finished, refusedJob, jobIf, mostText, job}
+use Rattle.model.specs.Text.{linesOf}
+use Rattle.model.specs.Job.{Line, bad, enter, show, withdraw, file, lineOf, padded, enough, stepOf, answerText, Tally, Run, runLines, started, Finished, refusedJob, jobIf, mostText, job}
 use Rattle.model.specs.Deeds.{callsOf, saidBy, said}
 use Rattle.model.proofs.Fair.{filings, Good, faults-total}
 use Rattle.model.proofs.Shapes.{few-faults}

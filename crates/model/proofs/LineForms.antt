@@ -13,7 +13,8 @@ use lib.Seq.{length-take-le, getD-take, getD-append-add, take-take, take-append-
 use borrow.Author.Tests.{ltb-false, le-ltb}
 use Rattle.rules.proofs.Tests.{by-cases, both, all-of}
 use Rattle.model.specs.Lists.{between, all, same}
-use Rattle.model.specs.Job.{fields, isNumber, valueFrom, Line, bad, enter, show, withdraw, file, two, four, fromFields, lineOf, padded}
+use Rattle.model.specs.Text.{fields, isNumber, valueFrom}
+use Rattle.model.specs.Job.{Line, bad, enter, show, withdraw, file, two, four, fromFields, lineOf, padded}
 use Rattle.model.specs.Serial.{validSerial}
 use Rattle.model.proofs.Lists.{between-is, same-eq, Every, every-imp}
 use Rattle.model.proofs.Walks.{every-all, all-every}

@@ -15,7 +15,8 @@ use Rattle.model.specs.Lists.{total}
 use Rattle.model.specs.Model.{Card, Store, cards}
 use Rattle.model.specs.Calls.{Terms, Step, admission, swept, call, openCall}
 use Rattle.model.specs.Runs.{Act, Act.enter, Act.file, Act.show, Act.withdraw, roomOf, perform, outcome}
-use Rattle.model.specs.Job.{Tally, Finished, linesOf, started, job}
+use Rattle.model.specs.Text.{linesOf}
+use Rattle.model.specs.Job.{Tally, Finished, started, job}
 use Rattle.model.proofs.Sums.{length-total}
 use Rattle.model.proofs.Fair.{one, filings, Good}
 use Rattle.model.proofs.Look.{look}

@@ -8,7 +8,8 @@ use Rattle.model.specs.Layout.{shapeOf, decode}
 use Rattle.model.specs.Numbers.{badLine}
 use Rattle.model.specs.Calls.{Step, refused, stays}
 use Rattle.model.specs.Runs.{Act, Call, Call.acting, outcome, wordsAfter, run}
-use Rattle.model.specs.Job.{Line, linesOf, padded, lineOf, enough, answerText, Tally, job}
+use Rattle.model.specs.Text.{linesOf}
+use Rattle.model.specs.Job.{Line, padded, lineOf, enough, answerText, Tally, job}
 
 -- what a line asks of the store; a line of a bad form asks nothing
 abbrev pub actsOf : Line → List Act

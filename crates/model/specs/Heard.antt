@@ -3,7 +3,8 @@ use Prim.Native.Nat.{ℕ}
 use mathlib.Core.List.{List, [], _∷_, _++_, map}
 use lib.ListN.{length, drop, getD}
 use Rattle.model.specs.Runs.{Act, roomOf, Event, Event.answered, Tell}
-use Rattle.model.specs.Job.{space, colon, fields, valueFrom, lineOf}
+use Rattle.model.specs.Text.{space, fields, valueFrom}
+use Rattle.model.specs.Job.{colon, lineOf}
 use Rattle.model.specs.Deeds.{actsOf}
 
 -- field k as a number

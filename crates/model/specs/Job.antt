@@ -1,34 +1,23 @@
 -- The job: lines of text run against a store, their answers, and the tally.
-use Prim.Native.Nat.{ℕ, zero, suc, _+_, _-_, _*_, _/_, _%_, min}
+use Prim.Native.Nat.{ℕ, zero, suc, _+_, _*_, min}
 use mathlib.Core.List.{List, [], _∷_, _++_}
 use mathlib.Core.Bool.{Bool, true, false, _&&_, cond}
 use lib.Dec.{ltb, eqb}
 use lib.ListN.{length, take, drop, replicate}
-use Rattle.model.specs.Lists.{between, all, same}
+use Rattle.model.specs.Lists.{same}
 use Rattle.model.specs.Serial.{mostBytes}
 use Rattle.model.specs.Model.{Store, size}
 use Rattle.model.specs.Shape.{faultsEver, need}
 use Rattle.model.specs.Layout.{shapeOf, encode, decode, sound}
 use Rattle.model.specs.Numbers.{notSound, shortRoom, shortScratch, badLine, longText}
 use Rattle.model.specs.Calls.{Answer, Step, refused, cleaned, stays, enterStep, fileStep, showStep, withdrawStep}
+use Rattle.model.specs.Text.{lf, space, fields, linesOf, isNumber, valueFrom, decimal}
 
--- the bytes that part a text: LF ends a line, a space parts fields, a colon day and code
-abbrev pub lf : ℕ
-lf = 10
-
-abbrev pub space : ℕ
-space = 32
-
+-- a colon parts day and code
 abbrev pub colon : ℕ
 colon = 58
 
--- the first and the last digit; E enters, F files, S shows, W withdraws
-abbrev pub digitZero : ℕ
-digitZero = 48
-
-abbrev pub digitNine : ℕ
-digitNine = 57
-
+-- E enters, F files, S shows, W withdraws
 abbrev pub letterE : ℕ
 letterE = 69
 
@@ -41,38 +30,9 @@ letterS = 83
 abbrev pub letterW : ℕ
 letterW = 87
 
--- the longest line without its LF, and the most digits of a number
+-- the longest line without its LF
 abbrev pub longestLine : ℕ
 longestLine = 64
-
-abbrev pub mostDigits : ℕ
-mostDigits = 9
-
--- the fields between separators; there is always one
-unfoldable pub onto : ℕ → List (List ℕ) → List (List ℕ)
-onto b [] = (b ∷ []) ∷ []
-onto b (f ∷ fs) = (b ∷ f) ∷ fs
-
-unfoldable pub fields : ℕ → List ℕ → List (List ℕ)
-fields sep [] = [] ∷ []
-fields sep (b ∷ bs) = cond (eqb b sep) ([] ∷ fields sep bs) (onto b (fields sep bs))
-
--- what LF ends are lines; a last piece counts if it is not empty
-unfoldable pub dropEmptyLast : List (List ℕ) → List (List ℕ)
-dropEmptyLast [] = []
-dropEmptyLast ([] ∷ []) = []
-dropEmptyLast ((b ∷ bs) ∷ []) = (b ∷ bs) ∷ []
-dropEmptyLast (l ∷ m ∷ ls) = l ∷ dropEmptyLast (m ∷ ls)
-
-unfoldable pub linesOf : List ℕ → List (List ℕ)
-linesOf text = dropEmptyLast (fields lf text)
-
-unfoldable pub isNumber : List ℕ → Bool
-isNumber f = between 1 mostDigits (length f) && all (between digitZero digitNine) f
-
-unfoldable pub valueFrom : ℕ → List ℕ → ℕ
-valueFrom v [] = v
-valueFrom v (d ∷ ds) = valueFrom (10 * v + (d - digitZero)) ds
 
 -- a serial as a field, made sixteen bytes; its length is kept, so an empty one or one over 16 is refused by 4
 unfoldable pub padded : List ℕ → List ℕ
@@ -114,16 +74,6 @@ stepOf s (enter f) = enterStep s (padded f) (length f)
 stepOf s (show f) = showStep s (padded f) (length f) enough
 stepOf s (withdraw f) = withdrawStep s (padded f) (length f) enough
 stepOf s (file f day code) = fileStep s (padded f) (length f) day code
-
--- decimal digits of a number below 10 ^ 20
-unfoldable pub digits : ℕ → ℕ → List ℕ → List ℕ
-digits zero n acc = acc
-digits (suc fuel) n acc =
-    let rest = digits fuel (n / 10) ((digitZero + n % 10) ∷ acc) in
-    cond (ltb n 10) ((digitZero + n) ∷ acc) rest
-
-unfoldable pub decimal : ℕ → List ℕ
-decimal n = digits 20 n []
 
 unfoldable pub pairText : ℕ → List ℕ → List ℕ
 pairText zero room = []

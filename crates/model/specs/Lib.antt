@@ -1,5 +1,5 @@
 -- Document 01 as definitions that compute, in its order: serials and faults, the store, the words it stands in, what their soundness means, the calls,
--- the plain list of cards, sequences of calls, the job, and what its answers tell.
+-- the plain list of cards, sequences of calls, text, the job, and what its answers tell.
 pub mod Lists
 pub mod Serial
 pub mod Shape
@@ -11,6 +11,7 @@ pub mod Numbers
 pub mod Calls
 pub mod Plain
 pub mod Runs
+pub mod Text
 pub mod Job
 pub mod Deeds
 pub mod Heard

@@ -7,9 +7,10 @@ use native.Mathlib.Omega.{arith}
 use lib.ListN.{length, length-append}
 use borrow.Author.Tests.{eq-eqb, ne-eqb}
 use Rattle.rules.proofs.Tests.{eq?, lt?}
-use Rattle.model.specs.Job.{decimal}
-use Rattle.job.specs.Text.{marked, numbersOf}
-use Rattle.job.proofs.Decimals.{decimal-small, decimal-one, decimal-less}
+use Rattle.model.specs.Text.{decimal}
+use Rattle.text.specs.Decimals.{marked}
+use Rattle.text.proofs.DecimalLaws.{decimal-small, decimal-one, decimal-less}
+use Rattle.job.specs.Answers.{numbersOf}
 use Rattle.reader.specs.Depot.{closingSize, closing}
 
 pub closing-none : (n : ℕ) → n ≡ 0 → closing n ≡ []

@@ -11,7 +11,8 @@ use borrow.Author.Tests.{lt-ltb, le-ltb}
 use Rattle.model.specs.Shape.{need}
 use Rattle.model.specs.Model.{Store, fresh}
 use Rattle.model.specs.Layout.{shapeOf, decodeAs, decode, sound}
-use Rattle.model.specs.Job.{digits, decimal, Run, linesOf, runLines, started, mostText}
+use Rattle.model.specs.Text.{digits, decimal, linesOf}
+use Rattle.model.specs.Job.{Run, runLines, started, mostText}
 use Rattle.model.proofs.Fresh.{fair-fresh, fresh-sound}
 use Rattle.model.proofs.Outcomes.{read-back}
 use Rattle.model.proofs.Jobs.{AllAnswered, Stopped, lines-end}

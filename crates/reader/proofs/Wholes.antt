@@ -13,11 +13,12 @@ use lib.Seq.{sets, length-take-le, take-append-seam, drop-append-seam, take-appe
 use Rattle.rules.proofs.Tests.{by-cases}
 use Rattle.model.specs.Shape.{need}
 use Rattle.model.specs.Layout.{shapeOf, decode, sound}
-use Rattle.model.specs.Job.{Run, linesOf, runLines, started, Tally, mostText, job}
+use Rattle.model.specs.Text.{linesOf}
+use Rattle.model.specs.Job.{Run, runLines, started, Tally, mostText, job}
 use Rattle.model.proofs.Jobs.{job-cases, lines-end, lines-fit}
-use Rattle.job.specs.Text.{Puts}
+use Rattle.text.specs.Decimals.{Puts}
+use Rattle.text.proofs.Putting.{put-front, put-rest}
 use Rattle.job.specs.declared.Done.{Done}
-use Rattle.job.proofs.Putting.{put-front, put-rest}
 use Rattle.reader.specs.Depot.{depotShape, opened, outputSize, wholeSize, blank, nothing, closing, wholeText, depotText, Ended, Writes}
 use Rattle.reader.proofs.Closing.{closing-long}
 

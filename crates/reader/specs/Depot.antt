@@ -9,7 +9,8 @@ use Rattle.model.specs.Shape.{Shape, need}
 use Rattle.model.specs.Model.{fresh}
 use Rattle.model.specs.Layout.{encode}
 use Rattle.model.specs.Calls.{Terms, shapeFor}
-use Rattle.model.specs.Job.{lf, space, digitZero, decimal, Tally, Finished, job}
+use Rattle.model.specs.Text.{lf, space, digitZero, decimal}
+use Rattle.model.specs.Job.{Tally, Finished, job}
 use Rattle.job.specs.declared.Done.{Done}
 
 -- C and F of its store

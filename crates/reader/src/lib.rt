@@ -4,14 +4,15 @@ ghost use Prim.Native.Nat.{_+_, _≤_};
 ghost use lib.ListN.{length};
 ghost use Rattle.model.specs.Shape.{need};
 ghost use Rattle.model.specs.Job.{job};
-ghost use Rattle.job.specs.Text.{Puts};
+ghost use Rattle.text.specs.Decimals.{Puts};
 ghost use Rattle.job.specs.Runs.{Did};
 ghost use Rattle.reader.specs.Depot.{depotShape, opened, wholeSize, blank, nothing, closing, depotText, Ended, Writes};
 use job::Done;
 use job::Ran;
 use job::Tally;
-use job::letters;
-use job::text;
+use job::answers;
+use text::decimals;
+use text::letters;
 
 // The limits of the store, C and F.
 const CARDS: u32 = 256;
@@ -80,8 +81,8 @@ fn close(out: &mut [u8], at: usize, number: u32) -> usize
     if number == 0 {
         return at;
     }
-    let end = text::put_numbers(out, at, number, 0, 0, 0);
-    text::put_byte(out, end, letters::LF)
+    let end = answers::put_numbers(out, at, number, 0, 0, 0);
+    decimals::put_byte(out, end, letters::LF)
 }
 
 // The job in the front of the output, and its closing line behind it.

@@ -6,8 +6,8 @@ use native.Mathlib.Omega.{arith}
 use borrow.Author.Tests.{not-true, not-false}
 use lib.ListN.{length}
 use Rattle.model.specs.Job.{mostText}
+use Rattle.text.proofs.Cursor.{end-from, end-in}
 use Rattle.job.specs.Counts.{tallyOf}
-use Rattle.job.proofs.Cursor.{end-from, end-in}
 use Rattle.job.proofs.Going.{Going, going-start, going-end, going-stop, going-on}
 use Rattle.job.proofs.run_lines.Statement.{statement}
 use Rattle.job.proofs.run_lines.Tie as tie

@@ -6,8 +6,8 @@ use native.Mathlib.Nat.{add-zero}
 use native.Mathlib.Omega.{arith}
 use borrow.Author.Needs.{needs}
 use lib.ListN.{length}
-use Rattle.job.specs.Text.{numbersOf}
-use Rattle.job.proofs.Putting.{puts-then, room-first, room-then}
+use Rattle.text.proofs.Putting.{puts-then, room-first, room-then}
+use Rattle.job.specs.Answers.{numbersOf}
 use Rattle.reader.proofs.Closing.{closing-none, closing-is}
 use Rattle.reader.proofs.close.Statement.{statement}
 use Rattle.reader.proofs.close.Tie as tie

@@ -3,7 +3,8 @@ use mathlib.Core.Path.{_≡_, sym, _∙_}
 use mathlib.Core.Bool.{true}
 use borrow.Author.Tests.{not-true, not-false}
 use denote.Ref.{now}
-use Rattle.model.specs.Job.{bad, file, isNumber, valueFrom}
+use Rattle.model.specs.Text.{isNumber, valueFrom}
+use Rattle.model.specs.Job.{bad, file}
 use Rattle.job.specs.Told.{kindIn, serialIn, dayIn, codeIn}
 use Rattle.job.proofs.Forms.{as-line, four-other, four-no-day, four-no-code, four-file}
 use Rattle.job.proofs.fields.fault_line.Statement.{statement}

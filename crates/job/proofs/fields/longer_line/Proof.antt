@@ -8,7 +8,7 @@ use denote.Ref.{now}
 use lib.ListN.{take, drop}
 use lib.Seq.{length-take-le}
 use Rattle.model.specs.Job.{bad, four}
-use Rattle.job.proofs.Cursor.{span-rest}
+use Rattle.text.proofs.Cursor.{span-rest}
 use Rattle.job.proofs.Forms.{as-line, behind-one, behind-two, behind-more}
 use Rattle.job.proofs.fields.longer_line.Statement.{statement}
 use Rattle.job.proofs.fields.longer_line.Tie as tie

@@ -6,9 +6,10 @@ use native.Mathlib.Omega.{arith}
 use borrow.Author.Needs.{needs}
 use denote.Ref.{now}
 use lib.ListN.{drop, getD}
-use Rattle.model.specs.Job.{bad, two, fromFields, fields}
-use Rattle.job.specs.Pieces.{span}
-use Rattle.job.proofs.Cursor.{end-from, span-rest}
+use Rattle.model.specs.Text.{fields}
+use Rattle.model.specs.Job.{bad, two, fromFields}
+use Rattle.text.specs.Pieces.{span}
+use Rattle.text.proofs.Cursor.{end-from, span-rest}
 use Rattle.job.proofs.Forms.{as-line, line-long, line-short, line-one, line-first, line-two, line-more}
 use Rattle.job.proofs.fields.parse.Statement.{statement}
 use Rattle.job.proofs.fields.parse.Tie as tie

@@ -1,0 +1,3 @@
+-- What the functions of text say beyond the model's definitions: text in pieces, and the text written.
+pub mod Pieces
+pub mod Decimals
