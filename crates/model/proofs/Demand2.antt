@@ -41,7 +41,7 @@ noted-entry : (f : Fault) (l : List Card) → map entry (map (withFault f) l) �
 noted-entry f [] = refl
 noted-entry f (c ∷ l) = rw (noted-entry f l, map-append slip (c .faults) (f ∷ []))
 
-entries-slips : (l : List Card) → slipsIn (map entry l) ≡ total filings l
+pub entries-slips : (l : List Card) → slipsIn (map entry l) ≡ total filings l
 entries-slips [] = refl
 entries-slips (c ∷ l) = rw (entries-slips l, length-map (c .faults) slip)
 

@@ -14,7 +14,7 @@ use Rattle.rules.specs.Code.{codeOf}
 use Rattle.rules.specs.Table.{addressOf}
 use Rattle.rules.proofs.Tests.{both}
 use Rattle.model.specs.Lists.{between}
-use Rattle.model.specs.Serial.{serialOk, validFault}
+use Rattle.model.specs.Serial.{serialOk, validFault, mostCode}
 use Rattle.model.specs.Shape.{Shape}
 use Rattle.model.specs.Model.{Fault, Card, Store, histories, addressIn, chainFor, is, historyIn}
 use Rattle.model.specs.Layout.{shapeOf, decode, sound, goodCard}
@@ -160,9 +160,9 @@ pairs-back : (h : List Fault) → Every Valid h → pairsBy (map pairPiece h) �
 unfolding validFault
 pairs-back [] v = refl
 pairs-back (f ∷ h) v =
-    let k = both (between 1 65535 (f .day)) (between 1 9999 (f .code)) (v .0) in
+    let k = both (between 1 65535 (f .day)) (between 1 mostCode (f .code)) (v .0) in
     let d = between-is 1 65535 (f .day) .0 (k .0) in
-    let c = between-is 1 9999 (f .code) .0 (k .1) in
+    let c = between-is 1 mostCode (f .code) .0 (k .1) in
     rw (pair-fields f, decimal-back (f .day) (omega arith), decimal-back (f .code) (omega arith), pairs-back h (v .1))
 
 -- an answer line: what is written is this and an LF, no LF stands in it, and it tells what the step gave

@@ -57,3 +57,7 @@ pub mod Remove
 pub mod Parting
 pub mod Split
 pub mod Join
+-- Document 02: the report
+pub mod ReportLaws
+pub mod Reports
+pub mod ReportCalls

@@ -12,7 +12,7 @@ use lib.Seq.{length-take-le, getD-take, getD-drop}
 use borrow.Author.Tests.{eqb-true, eq-eqb, ltb-true, ltb-false}
 use Rattle.rules.proofs.Tests.{by-cases, not-both, both, all-of, either}
 use Rattle.model.specs.Lists.{between, all}
-use Rattle.model.specs.Serial.{allowed, serialOk, validSerial, validFault}
+use Rattle.model.specs.Serial.{allowed, serialOk, validSerial, validFault, mostCode}
 use Rattle.model.proofs.Lists.{between-is}
 
 -- a test of each element, by their places
@@ -122,16 +122,16 @@ pub record FaultMeans (day code : ℕ) : Type 0 where
   pub first-day : 1 ≤ day
   pub last-day : day ≤ 65535
   pub least-code : 1 ≤ code
-  pub most-code : code ≤ 9999
+  pub most-code : code ≤ mostCode
 
 pub fault-means : (day code : ℕ) → (validFault day code ≡ true) ↔ FaultMeans day code
 unfolding validFault
 fault-means day code = (
-  λ e. let a = both (between 1 65535 day) (between 1 9999 code) e in
+  λ e. let a = both (between 1 65535 day) (between 1 mostCode code) e in
       let d = between-is 1 65535 day .0 (a .0) in
-      let c = between-is 1 9999 code .0 (a .1) in
+      let c = between-is 1 mostCode code .0 (a .1) in
       record { first-day = d .0; last-day = d .1; least-code = c .0; most-code = c .1 },
-  λ m. all-of (between-is 1 65535 day .1 (m .first-day, m .last-day)) (between-is 1 9999 code .1 (m .least-code, m .most-code)),
+  λ m. all-of (between-is 1 65535 day .1 (m .first-day, m .last-day)) (between-is 1 mostCode code .1 (m .least-code, m .most-code)),
 )
 
 pub no-fault-means : (day code : ℕ) → (validFault day code ≡ false) ↔ (FaultMeans day code → ⊥)

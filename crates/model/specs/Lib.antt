@@ -15,5 +15,7 @@ pub mod Text
 pub mod Job
 pub mod Deeds
 pub mod Heard
--- not of document 01: bounds over all formats, for laws and inner contracts
+-- document 02: faults by code
+pub mod Report
+-- of neither: bounds over all formats, for laws and inner contracts
 pub mod Bounds

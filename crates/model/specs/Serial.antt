@@ -22,6 +22,10 @@ serialOk y = between 1 mostBytes (length y) && all allowed y
 unfoldable pub validSerial : List ℕ → ℕ → Bool
 validSerial bytes n = eqb (length (take n bytes)) n && (serialOk (take n bytes) && all (eqb 0) (drop n bytes))
 
+-- the highest code
+abbrev pub mostCode : ℕ
+mostCode = 9999
+
 -- a fault: a day, 1 to 65,535, and a code, 1 to 9,999
 unfoldable pub validFault : ℕ → ℕ → Bool
-validFault day code = between 1 65535 day && between 1 9999 code
+validFault day code = between 1 65535 day && between 1 mostCode code
