@@ -8,3 +8,4 @@ pub mod RunLaws
 pub mod TextLaws
 pub mod ReportCases
 pub mod OneOutcome
+pub mod ProgramReport

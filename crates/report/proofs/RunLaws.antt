@@ -10,7 +10,7 @@ use borrow.Author.Tests.{leb-true, leb-false, le-leb, lt-leb, eqb-true, ne-eqb}
 use lib.Dec.{leb, eqb}
 use lib.ListN.{length, take, drop, getD, replicate, drop-of-length-le, length-append, length-drop, length-take}
 use lib.Seq.{take-all, take-nil, drop-nil, drop-cons, drop-drop, getD-take}
-use Rattle.rules.proofs.Tests.{by-cases, both, all-of}
+use Rattle.rules.proofs.Tests.{by-cases, both}
 use Rattle.model.specs.Lists.{all, total}
 use Rattle.model.specs.Shape.{faultsEver, need}
 use Rattle.model.specs.Bounds.{cardsEver}
@@ -18,7 +18,7 @@ use Rattle.model.specs.Layout.{shapeOf, sound}
 use Rattle.model.specs.Calls.{cleaned}
 use Rattle.model.specs.Report.{mostStores, pieces, runSound, mostNeed, needOf, historiesIn, allHistories}
 use Rattle.model.proofs.Sums.{total-append}
-use Rattle.model.proofs.ReportCalls.{pieces-count, no-empty-store}
+use Rattle.model.proofs.ReportCalls.{pieces-count}
 use Rattle.report.specs.declared.rows.Totals.{Totals}
 use Rattle.report.specs.Rows.{blank, noteAll, Takes, Noted}
 use Rattle.report.specs.Runs.{storeAt, soundAt, Clean, NotedAll}
@@ -127,15 +127,7 @@ module _ {run ns scratch₀ scratch : List ℕ} {at i : ℕ} (a : Testing run ns
           same = rw p (same-on ∙ (λ j. eqb (q j) (length run) && (t .1 j && all sound (storesLeft run ns (at + n) (suc i)))));
         }
 
--- the store at hand, by the two tests of the code and the test of its words
-
-no-words : sound [] ≡ false
-unfolding runSound pieces
-no-words = by-cases (sound []) (λ e. absurd (omega (arith, no-empty-store [] (0 ∷ []) (all-of e refl) .0))) (λ e. e)
-
-pub none-at : (run : List ℕ) (at n : ℕ) → n ≡ 0 → false ≡ soundAt run at n
-unfolding soundAt
-none-at run at n z = rw z (sym (ap (λ (b : Bool). leb 0 (length run - at) && b) no-words ∙ and-false (leb 0 (length run - at))))
+-- the store at hand, by the test of its length and of its words
 
 pub short-at : (run : List ℕ) (at n : ℕ) → length run - at < n → false ≡ soundAt run at n
 unfolding soundAt

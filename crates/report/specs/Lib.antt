@@ -3,3 +3,4 @@ pub mod Rows
 pub mod Runs
 pub mod Reports
 pub mod Texts
+pub mod Stories

@@ -58,14 +58,11 @@ pub fn need_of(words: &[u32], lengths: &[u32]) -> usize
     most
 }
 
-// Whether a store of so many words at a place stands whole in the run, and is sound. The scratch is clean, and stays so.
+// Whether a store of so many words at a place stands whole in the run, and is sound; no words at all are not. The scratch is clean, and stays so.
 fn sound_at(words: &[u32], at: usize, len: usize, scratch: &mut [u8]) -> bool
     requires { ⌜ (at ≤ length (now words)) × Clean (need (shapeOf (storeAt (now words) at len))) (now scratch) ⌝ }
     ensures { λ r. ⌜ (r ≡ soundAt (now (words .entry)) at len) × (now (scratch .exit) ≡ now (scratch .entry)) ⌝ }
 {
-    if len == 0 {
-        return false;
-    }
     if words.len() - at < len {
         return false;
     }
