@@ -2,7 +2,7 @@
 use mathlib.Core.Path.{_≡_}
 use mathlib.Core.Bool.{cond}
 use mathlib.Core.List.{List, [], _∷_, _++_, map}
-use Prim.Native.Nat.{ℕ, _*_, _≤_}
+use Prim.Native.Nat.{ℕ, _+_, _*_, _≤_}
 use lib.Dec.{eqb}
 use lib.ListN.{length}
 use Rattle.model.specs.Lists.{join, from}
@@ -45,6 +45,11 @@ mostRated = mostStores * faultsEver
 pub record Long (text : List ℕ) (most r : ℕ) : Type 0 where
   pub is : r ≡ length text
   pub few : r ≤ most
+
+-- where a text ends that begins at a place, and that it is no longer than this
+pub record EndsAt (at : ℕ) (text : List ℕ) (most r : ℕ) : Type 0 where
+  pub is : r ≡ at + length text
+  pub few : r ≤ at + most
 
 -- a text at the front of an output, or number 10 and nothing where it does not fit; the scratch has no part in it
 abbrev pub PutsReport : List ℕ → List ℕ → Wrote → List ℕ → Type 0

@@ -7,7 +7,7 @@ ghost use Rattle.model.specs.Serial.{mostCode};
 ghost use Rattle.model.specs.Report.{numbersLine, rateLine, totalLines};
 ghost use Rattle.text.specs.Decimals.{Puts};
 ghost use Rattle.report.specs.Rows.{rowWidth, rowAt, rowsLong, rowOf};
-ghost use Rattle.report.specs.Texts.{rowLine, rowLines, textOf, longestOf, longestRow, longestTotals, mostRated, Long, PutsReport};
+ghost use Rattle.report.specs.Texts.{rowLine, rowLines, textOf, longestOf, longestRow, longestTotals, mostRated, Long, EndsAt, PutsReport};
 use crate::rows;
 use crate::rows::Totals;
 use store::Wrote;
@@ -78,19 +78,19 @@ fn put_line5(out: &mut [u8], at: usize, a: u32, b: u32, c: u32, d: u32, e: u32) 
     put_line2(out, s, d, e)
 }
 
-// The line of a code, none where it has no entry.
-fn row_len(rows: &[u32], k: usize) -> usize
-    requires { ⌜ (length (now rows) ≡ rowsLong) × (k ≤ mostCode) ⌝ }
-    ensures { λ r. ⌜ Long (rowLine k (rowOf (now (rows .entry)) k)) longestRow r ⌝ }
+// The line of a code, none where it has no entry: where it ends if it begins at `at`, and written there.
+fn row_end(rows: &[u32], k: usize, at: usize) -> usize
+    requires { ⌜ (length (now rows) ≡ rowsLong) × (k ≤ mostCode) × (at ≤ longestRow * mostCode) ⌝ }
+    ensures { λ r. ⌜ EndsAt at (rowLine k (rowOf (now (rows .entry)) k)) longestRow r ⌝ }
 {
     let entries = row_word(rows, k, rows::TO_ENTRIES);
     if entries == 0 {
-        return 0;
+        return at;
     }
     let cards = row_word(rows, k, rows::TO_CARDS);
     let earliest = row_word(rows, k, rows::TO_EARLIEST);
     let latest = row_word(rows, k, rows::TO_LATEST);
-    line5_len(k as u32, entries, cards, earliest, latest)
+    at + line5_len(k as u32, entries, cards, earliest, latest)
 }
 
 fn put_row(out: &mut [u8], at: usize, rows: &[u32], k: usize) -> usize
@@ -112,13 +112,13 @@ fn rows_len(rows: &[u32]) -> usize
     requires { ⌜ length (now rows) ≡ rowsLong ⌝ }
     ensures { λ r. ⌜ Long (rowLines (now (rows .entry)) 1 mostCode) (longestRow * mostCode) r ⌝ }
 {
-    let mut sum: usize = 0;
+    let mut end: usize = 0;
     let mut k: usize = 1;
     while k <= MOST_CODE {
-        sum += row_len(rows, k);
+        end = row_end(rows, k, end);
         k += 1;
     }
-    sum
+    end
 }
 
 fn put_rows(out: &mut [u8], at: usize, rows: &[u32]) -> usize

@@ -1,4 +1,4 @@
--- `report::texts::rows_len` meets its contract. The loop's invariant: the sum so far with the length of the lines of the codes from `k` on
+-- `report::texts::rows_len` meets its contract. The loop's invariant: the end so far with the length of the lines of the codes from `k` on
 -- is the length of all, and each code passed counts a row's most at most. Assumes nothing.
 use mathlib.Core.Path.{_≡_, ap, _∙_}
 use Prim.Native.Nat.{_+_, _-_, _*_, _≤_}
@@ -13,11 +13,11 @@ use Rattle.report.proofs.texts.rows_len.Statement.{statement}
 use Rattle.report.proofs.texts.rows_len.Tie as tie
 
 abbrev Inv-loop : tie.InvT-loop
-Inv-loop rows sum₀ k₀ sum k =
-    (1 ≤ k) × (k ≤ mostCode + 1) × (sum ≤ longestRow * (k - 1)) × (sum + length (rowLines rows k (mostCode + 1 - k)) ≡ length (rowLines rows 1 mostCode))
+Inv-loop rows end₀ k₀ end k =
+    (1 ≤ k) × (k ≤ mostCode + 1) × (end ≤ longestRow * (k - 1)) × (end + length (rowLines rows k (mostCode + 1 - k)) ≡ length (rowLines rows 1 mostCode))
 
 abbrev μ-loop : tie.MeasureT-loop
-μ-loop rows sum₀ k₀ sum k = mostCode + 1 - k
+μ-loop rows end₀ k₀ end k = mostCode + 1 - k
 
 loop-holds : tie.Need-loop-holds Inv-loop μ-loop
 loop-holds c = (omega arith, omega arith, omega arith, omega arith)
@@ -34,7 +34,7 @@ returns c =
     let done = ap length (rows-done (now (c .before .before .before .args .rows)) (c .before .loop .k) mostCode (omega arith)) in
     record { is = omega arith; few = omega arith }
 
--- in order: the loop's start, the row, the sum, `k + 1`, the measure, a turn, the return
+-- in order: the loop's start, the row, `k + 1`, the measure, a turn, the return
 pub rows-len-spec : {M : Type 1} → statement M
 rows-len-spec =
     tie.close
@@ -42,8 +42,7 @@ rows-len-spec =
     Inv-loop
     μ-loop
     loop-holds
-    (λ c κs. (c .before .before .before .pre, omega arith))
-    (λ c. omega arith)
+    (λ c κs. (c .before .before .before .pre, omega arith, omega arith))
     (λ c. omega arith)
     (λ c. omega arith)
     loop-again
