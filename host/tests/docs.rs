@@ -6,12 +6,13 @@ use std::fs;
 use std::path::{Path, PathBuf};
 
 /// The documents that cite names.
-const DOCUMENTS: [&str; 7] = [
+const DOCUMENTS: [&str; 8] = [
     "README.md",
     "docs/AUDIT.md",
     "docs/CHECKER.md",
     "docs/CLAIMS.md",
     "docs/DECISIONS.md",
+    "docs/REPORT.md",
     "docs/RULES.md",
     "docs/SHAMS.md",
 ];
@@ -169,7 +170,7 @@ fn short(kind: &str, name: &str) -> Vec<String> {
     let places = match (kind, name, name.split_once('/')) {
         (_, _, Some((owner, name))) => vec![format!("crates/{owner}/{folder}/{name}.{ending}")],
         ("code", "lib", _) => vec!["crates/rules/src/lib.rt".to_string()],
-        ("code", "store" | "job" | "reader", _) => vec![format!("crates/{name}/src/lib.rt")],
+        ("code", "store" | "job" | "report" | "reader", _) => vec![format!("crates/{name}/src/lib.rt")],
         ("code", _, _) => vec![format!("crates/store/src/{name}.rt")],
         _ => ["rules", "model", "store", "reader"]
             .iter()
