@@ -15,10 +15,13 @@ ghost use Rattle.store.specs.Search.{Ends};
 ghost use Rattle.report.specs.Rows.{slipOf, slipsFrom, noted, noteHistory, codesFit, wordTop, Takes, Noted, cardsAfter, earliestAfter, latestAfter};
 use store::Header;
 
-// The words of a row, and of all rows: one for each code up to 9,999, and one for 0, which no fault has.
+// The highest code.
+pub const MOST_CODE: usize = 9999;
+
+// The words of a row, and of all rows: one for each code, and one for 0, which no fault has.
 pub const ROW: usize = 5;
 
-pub const ROWS: usize = 50000;
+pub const ROWS: usize = ROW * (MOST_CODE + 1);
 
 // Where in a row its words stand: the entries, the cards that have the code, the earliest and the latest day, the last card counted.
 pub const TO_ENTRIES: usize = 0;

@@ -15,9 +15,6 @@ use store::numbers;
 use text::decimals;
 use text::letters;
 
-// The highest code.
-const MOST_CODE: usize = 9999;
-
 // Word j of the row of code k.
 fn row_word(rows: &[u32], k: usize, j: usize) -> u32
     requires { ⌜ (length (now rows) ≡ rowsLong) × (k ≤ mostCode) × (j < rowWidth) ⌝ }
@@ -114,7 +111,7 @@ fn rows_len(rows: &[u32]) -> usize
 {
     let mut end: usize = 0;
     let mut k: usize = 1;
-    while k <= MOST_CODE {
+    while k <= rows::MOST_CODE {
         end = row_end(rows, k, end);
         k += 1;
     }
@@ -127,7 +124,7 @@ fn put_rows(out: &mut [u8], at: usize, rows: &[u32]) -> usize
 {
     let mut end = at;
     let mut k: usize = 1;
-    while k <= MOST_CODE {
+    while k <= rows::MOST_CODE {
         end = put_row(out, end, rows, k);
         k += 1;
     }
