@@ -61,3 +61,4 @@ pub mod Join
 pub mod ReportLaws
 pub mod Reports
 pub mod ReportCalls
+pub mod ReportExample
