@@ -1,6 +1,7 @@
 // One call: what is asked, what is left, and how that is told.
-use crate::sums;
-use crate::text;
+use crate::fills;
+use script::lines;
+use script::sums;
 use store::Answer;
 
 // A call by the letter of its line. Only File has a day and a code.
@@ -38,8 +39,8 @@ fn answer(words: &mut [u32], scratch: &mut [u8], room: &mut [u32], c: Call) -> A
 }
 
 pub fn ask(words: &mut [u32], scratch: &mut [u8], room: &mut [u32], c: Call) -> Left {
-    sums::fill_bytes(scratch);
-    sums::fill_words(room);
+    fills::fill_bytes(scratch);
+    fills::fill_words(room);
     let a = answer(words, scratch, room, c);
     Left {
         number: a.number,
@@ -61,22 +62,22 @@ fn has_room(letter: u8) -> bool {
 }
 
 fn tell_sums(left: Left, room: bool) {
-    text::put(b" words");
-    text::put_next(left.words);
+    lines::put(b" words");
+    lines::put_next(left.words);
     if room {
-        text::put(b" room");
-        text::put_next(left.room);
+        lines::put(b" room");
+        lines::put_next(left.room);
     }
-    text::put(b" scratch");
-    text::put_next(left.scratch);
+    lines::put(b" scratch");
+    lines::put_next(left.scratch);
 }
 
 pub fn tell(left: Left, letter: u8) {
-    text::put(b":");
-    text::put_next(left.number);
-    text::put_next(left.comparisons);
-    text::put_next(left.scanned);
-    text::put_next(left.faults);
+    lines::put(b":");
+    lines::put_next(left.number);
+    lines::put_next(left.comparisons);
+    lines::put_next(left.scanned);
+    lines::put_next(left.faults);
     tell_sums(left, has_room(letter));
 }
 

@@ -20,9 +20,8 @@
 mod asks; // asks.rt: one call: what is asked, what is left, and how that is told
 mod chains; // chains.rt: the serials of a bucket, read from the words
 mod desk; // desk.rt: the script: each line is done and told
+mod fills; // fills.rt: what scratch and room are filled with before a call
 mod numbered; // numbered.rt: serials by number, and many calls for them
-mod sums; // sums.rt: checksums, and what scratch and room are filled with before a call
-mod text; // text.rt: lines, their fields, and printing
 
 // A script of up to 65,536 bytes, and words for the largest store.
 fn main() {

@@ -2,7 +2,7 @@
 use crate::asks;
 use crate::asks::Call;
 use crate::chains;
-use crate::text;
+use script::lines;
 
 // `AZ` for an even number and `B9` for an odd one: their codes are equal, 33 times the first byte and the second.
 fn high(n: u32) -> u8 {
@@ -88,15 +88,15 @@ fn next(n: u32, step: u32) -> u32 {
 
 // A line for the calls so far: maxp, p, cards and faults held, and the checksum.
 fn report(words: &[u32], calls: u32, sum: u32) {
-    text::put(b"\n");
-    text::put_number(calls);
-    text::put(b" calls:");
-    text::put_next(chains::word(words, 3));
-    text::put_next(chains::word(words, 4));
-    text::put_next(chains::word(words, 5));
-    text::put_next(chains::word(words, 6));
-    text::put(b" sum");
-    text::put_next(sum);
+    lines::put(b"\n");
+    lines::put_number(calls);
+    lines::put(b" calls:");
+    lines::put_next(chains::word(words, 3));
+    lines::put_next(chains::word(words, 4));
+    lines::put_next(chains::word(words, 5));
+    lines::put_next(chains::word(words, 6));
+    lines::put(b" sum");
+    lines::put_next(sum);
 }
 
 // After each 64 calls, and after the last one.

@@ -1,10 +1,10 @@
--- `sums::fill_bytes` is safe and ends: the number of bytes stays.
+-- `fills::fill_bytes` is safe and ends: the number of bytes stays.
 use mathlib.Core.Path.{_≡_, refl}
 use Prim.Native.Nat.{_-_}
 use native.Mathlib.Omega.{arith}
 use lib.ListN.{length, length-set}
-use Rattle.store_calls.proofs.sums.fill_bytes.Statement.{statement}
-use Rattle.store_calls.proofs.sums.fill_bytes.Tie as tie
+use Rattle.store_calls.proofs.fills.fill_bytes.Statement.{statement}
+use Rattle.store_calls.proofs.fills.fill_bytes.Tie as tie
 
 abbrev Inv-loop : tie.InvT-loop
 Inv-loop bytes₀ i₀ bytes i = length bytes ≡ length bytes₀

@@ -1,9 +1,9 @@
--- `text::number` is safe and ends: nothing has to hold from turn to turn.
+-- `lines::number` is safe and ends: nothing has to hold from turn to turn.
 use Prim.Native.Nat.{_-_}
 use native.Mathlib.Omega.{arith}
 use lib.ListN.{length}
-use Rattle.store_calls.proofs.text.number.Statement.{statement}
-use Rattle.store_calls.proofs.text.number.Tie as tie
+use Rattle.script.proofs.lines.number.Statement.{statement}
+use Rattle.script.proofs.lines.number.Tie as tie
 
 abbrev Inv-loop : tie.InvT-loop
 Inv-loop field n₀ i₀ n i = Unit {0}

@@ -1,5 +1,6 @@
 // Lines, their fields, and printing.
-ghost use Prim.Native.Nat.{_≤_};
+ghost use mathlib.Core.Path.{_≡_};
+ghost use Prim.Native.Nat.{_+_, _≤_, min};
 ghost use lib.ListN.{length};
 use libc::STDOUT_FILENO;
 
@@ -88,4 +89,53 @@ pub fn number(field: &[u8]) -> u32 {
         i += 1;
     }
     n
+}
+
+// The lesser of two numbers, for what is lent of a buffer.
+pub fn least(a: usize, b: usize) -> usize
+    ensures { λ r. ⌜ r ≤ b ⌝ }
+{
+    if a < b { a } else { b }
+}
+
+// Where the piece that begins there ends, which a mark ends.
+fn piece_end(bytes: &[u8], at: usize, mark: u8) -> usize
+    requires { ⌜ at ≤ length (now bytes) ⌝ }
+    ensures { λ r. ⌜ (at ≤ r) × (r ≤ length (now (bytes .entry))) ⌝ }
+{
+    at + before(&bytes[at..], mark)
+}
+
+// Where the line that begins there ends.
+pub fn line_end(script: &[u8], at: usize) -> usize
+    requires { ⌜ at ≤ length (now script) ⌝ }
+    ensures { λ r. ⌜ (at ≤ r) × (r ≤ length (now (script .entry))) ⌝ }
+{
+    piece_end(script, at, b'\n')
+}
+
+// Where what stands behind a piece that ends there begins, or where all of that length ends.
+pub fn past(end: usize, len: usize) -> usize
+    ensures { λ r. ⌜ r ≡ min (end + 1) len ⌝ }
+{
+    if end < len { end + 1 } else { len }
+}
+
+// Where field k of a line begins, the letter being field 0.
+fn field_at(line: &[u8], k: u32) -> usize
+    ensures { λ r. ⌜ r ≤ length (now (line .entry)) ⌝ }
+{
+    let mut at: usize = 0;
+    let mut i: u32 = 0;
+    while i < k {
+        at = past(piece_end(line, at, b' '), line.len());
+        i += 1;
+    }
+    at
+}
+
+// The number in field k of a line; 0 where there is no such field.
+pub fn number_at(line: &[u8], k: u32) -> u32 {
+    let at = field_at(line, k);
+    number(first(&line[at..], b' '))
 }

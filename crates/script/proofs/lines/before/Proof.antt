@@ -1,9 +1,9 @@
--- `text::before` is safe and ends, and its count is within the bytes.
+-- `lines::before` is safe and ends, and its count is within the bytes.
 use Prim.Native.Nat.{_-_, _≤_}
 use native.Mathlib.Omega.{arith}
 use lib.ListN.{length}
-use Rattle.store_calls.proofs.text.before.Statement.{statement}
-use Rattle.store_calls.proofs.text.before.Tie as tie
+use Rattle.script.proofs.lines.before.Statement.{statement}
+use Rattle.script.proofs.lines.before.Tie as tie
 
 abbrev Inv-loop : tie.InvT-loop
 Inv-loop bytes mark i₀ i = i ≤ length bytes

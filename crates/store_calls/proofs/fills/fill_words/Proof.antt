@@ -1,10 +1,10 @@
--- `sums::fill_words` is safe and ends: the number of words stays.
+-- `fills::fill_words` is safe and ends: the number of words stays.
 use mathlib.Core.Path.{_≡_, refl}
 use Prim.Native.Nat.{_-_}
 use native.Mathlib.Omega.{arith}
 use lib.ListN.{length, length-set}
-use Rattle.store_calls.proofs.sums.fill_words.Statement.{statement}
-use Rattle.store_calls.proofs.sums.fill_words.Tie as tie
+use Rattle.store_calls.proofs.fills.fill_words.Statement.{statement}
+use Rattle.store_calls.proofs.fills.fill_words.Tie as tie
 
 abbrev Inv-loop : tie.InvT-loop
 Inv-loop words₀ i₀ words i = length words ≡ length words₀

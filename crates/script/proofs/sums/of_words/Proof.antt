@@ -2,8 +2,8 @@
 use Prim.Native.Nat.{_-_}
 use native.Mathlib.Omega.{arith}
 use lib.ListN.{length}
-use Rattle.store_calls.proofs.sums.of_words.Statement.{statement}
-use Rattle.store_calls.proofs.sums.of_words.Tie as tie
+use Rattle.script.proofs.sums.of_words.Statement.{statement}
+use Rattle.script.proofs.sums.of_words.Tie as tie
 
 abbrev Inv-loop : tie.InvT-loop
 Inv-loop words sum₀ i₀ sum i = Unit {0}
