@@ -1,5 +1,6 @@
-//! The card store of document 01, written a second time. It is made from the text of the rules alone and shares no line
-//! and, where there is a choice, no method with the proved crates: what both get right is unlikely to be one error made twice.
+//! The card store of document 01, and what document 02 adds to it, written a second time. It is made from the text of the rules alone
+//! and shares no line and, where there is a choice, no method with the proved crates: what both get right is unlikely to be one
+//! error made twice.
 //!
 //! Here a store is lists: buckets of cards, each card with its faults, and two lists of free cells ([`lists`]). A call reads the
 //! words into lists if they are sound ([`sound`]), works on the lists ([`operations`]) and writes all words anew ([`layout`]).
@@ -13,7 +14,10 @@ pub mod layout;
 pub mod lists;
 pub mod operations;
 pub mod random;
+pub mod report;
 pub mod rules;
+pub mod run_cases;
+pub mod runs;
 pub mod script;
 pub mod serial;
 pub mod sound;

@@ -1,6 +1,7 @@
 //! `reference depot` reads standard input and writes what the program `depot` must write for it. `reference jobs FOLDER` writes jobs
 //! there, NAME.in, and what `depot` must write for each, NAME.out. `reference soundness` writes what the program `store_soundness`
-//! must write. `reference calls` reads a script and writes what the program `store_calls` must write for it.
+//! must write. `reference calls` reads a script and writes what the program `store_calls` must write for it. `reference runs` does the
+//! same for `list_runs`, and `reference run-cases` writes the script for it.
 use std::env;
 use std::fs;
 use std::io::{self, Read, Write};
@@ -13,10 +14,13 @@ fn main() -> io::Result<()> {
         [word, folder] if word == "jobs" => jobs(Path::new(folder))?,
         [word] if word == "soundness" => reference::damages::report().into_bytes(),
         [word] if word == "calls" => reference::script::report(&String::from_utf8_lossy(&input()?)).into_bytes(),
+        [word] if word == "runs" => reference::runs::told(&String::from_utf8_lossy(&input()?)).into_bytes(),
+        [word] if word == "run-cases" => reference::run_cases::script().into_bytes(),
         _ => {
             eprintln!(
-                "usage: reference depot <JOB, reference jobs FOLDER, reference soundness, or reference calls <SCRIPT"
+                "usage: reference depot <JOB, reference jobs FOLDER, reference soundness, reference calls <SCRIPT,"
             );
+            eprintln!("reference runs <SCRIPT, or reference run-cases");
             process::exit(2);
         }
     };

@@ -140,7 +140,7 @@ fn sent(field: &str) -> ([u8; WIDTH], usize) {
     (padded(field.replace('|', "").replace('_', "\0").as_bytes()), length)
 }
 
-fn padded(bytes: &[u8]) -> [u8; WIDTH] {
+pub(crate) fn padded(bytes: &[u8]) -> [u8; WIDTH] {
     let mut serial = [0; WIDTH];
     serial.iter_mut().zip(bytes).for_each(|(to, from)| *to = *from);
     serial
@@ -158,11 +158,11 @@ fn numbered(n: u32) -> String {
 
 // ---- numbers
 
-fn number(field: &str) -> u32 {
+pub(crate) fn number(field: &str) -> u32 {
     field.parse().expect("a number")
 }
 
-fn checksum(numbers: &[u32]) -> u32 {
+pub(crate) fn checksum(numbers: &[u32]) -> u32 {
     numbers.iter().copied().fold(1, mix)
 }
 
