@@ -2,9 +2,11 @@
 //! not timed.
 //!
 //! `bench_reference` runs the frames of standard input; `bench_reference stores` writes stores, sound and not, for a checker to
-//! judge; `bench_reference verdicts` reads such stores and judges them.
+//! judge; `bench_reference verdicts` reads such stores and judges them; `bench_reference report` makes the report over the stores of
+//! standard input.
 mod edits;
 mod near;
+mod report;
 mod stores;
 
 use frames::{Done, Program, CARDS, FAULTS, OUT};
@@ -67,7 +69,8 @@ fn main() {
         [] => frames::run(&mut Reference::new()),
         ["stores"] => stores::write().map_err(|error| error.to_string()),
         ["verdicts"] => stores::judge().map_err(|error| error.to_string()),
-        _ => Err("usage: bench_reference [stores | verdicts]".to_string()),
+        ["report"] => report::run(),
+        _ => Err("usage: bench_reference [stores | verdicts | report]".to_string()),
     };
     if let Err(why) = ended {
         eprintln!("bench_reference: {why}");

@@ -4,14 +4,20 @@
 //! in its turns; `texts twice ..` the same as `whole` with an empty job before each job measured, so that soundness is tested twice;
 //! `texts written ..` the same as `whole` with the answers written. `texts odd`, `texts brim` and `texts single` are not for timing:
 //! they are odd lines, the limits of the store, and single calls.
+//!
+//! `texts tested WORKLOAD GROUP TURNS` writes stores, and that a report is made over each group of so many of them; `texts again ..` the
+//! same with a second report of each group, without tests of soundness; `texts base ..` the same as `tested` with no turns; `texts written
+//! ..` the same as `again` with the last text written.
 mod frame;
 mod limits;
 mod odd;
+mod stores;
 mod workload;
 
 use frame::Frame;
 use std::io::{self, Write};
 use std::{env, process};
+use stores::Task;
 use workload::Workload;
 
 fn main() {
@@ -21,6 +27,7 @@ fn main() {
         ["odd"] => Some(frame::bytes(&odd::frames(), true)),
         ["brim"] => Some(frame::bytes(&limits::brim(), true)),
         ["single"] => Some(frame::bytes(&limits::single(), true)),
+        [form, name, group, turns] if stores::NAMES.contains(&name) => reported(form, name, group, turns),
         [form, name, cards, turns] => timed(form, name, cards, turns),
         _ => None,
     };
@@ -43,8 +50,21 @@ fn timed(form: &str, name: &str, cards: &str, turns: &str) -> Option<Vec<u8>> {
     }
 }
 
+fn reported(form: &str, name: &str, group: &str, turns: &str) -> Option<Vec<u8>> {
+    let turns = turns.parse().ok()?;
+    let task = match form {
+        "base" => Task { twice: false, written: false, turns: 0 },
+        "tested" => Task { twice: false, written: false, turns },
+        "again" => Task { twice: true, written: false, turns },
+        "written" => Task { twice: true, written: true, turns },
+        _ => return None,
+    };
+    stores::input(name, group.parse().ok()?, &task)
+}
+
 fn usage() {
     eprintln!("usage: texts base|whole|twice|written {} CARDS TURNS", workload::NAMES.join("|"));
+    eprintln!("       texts base|tested|again|written {} GROUP TURNS", stores::NAMES.join("|"));
     eprintln!("       texts odd|brim|single");
     eprintln!("CARDS is one of 64, 128, 256, 512 and 1024");
     process::exit(2);
