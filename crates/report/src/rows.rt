@@ -83,7 +83,8 @@ fn note(rows: &mut [u32], n: u32, day: u32, code: u32)
     rows[at + TO_SEEN] = n;
 }
 
-// Notes the history from fault cell `first` on, of card n. The next cell is read before the fault is noted: a processor then has it sooner.
+// Notes the history from fault cell `first` on, of card n. The next cell is read before a fault is noted, and in `note_store` the next card
+// before a history is: a processor then has it sooner.
 fn note_history(w: &[u32], h: Header, first: u32, rows: &mut [u32], n: u32)
     requires { ⌜ Sized (now w) h × Ends (h .faults) (nextFault (shapeIn h) (now w)) first × (codesFit (slipsFrom (shapeIn h) (now w) first) ≡ true) × Takes (now rows) (length (slipsFrom (shapeIn h) (now w) first)) ⌝ }
     ensures { λ _. ⌜ now (rows .exit) ≡ noteHistory (now (rows .entry)) n (slipsFrom (shapeIn h) (now (w .entry)) first) ⌝ }
@@ -112,9 +113,10 @@ pub fn note_store(w: &[u32], rows: &mut [u32], sum: Totals) -> Totals
     let mut n: u32 = 0;
     while n < held {
         let first = store::card_word(w, h, at.cell, store::TO_FIRST);
+        let next = store::next_card(w, h, at);
         n += 1;
         note_history(w, h, first, rows, cards + n);
-        at = store::next_card(w, h, at);
+        at = next;
     }
     Totals {
         cards: cards + held,

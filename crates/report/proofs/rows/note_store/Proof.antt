@@ -47,36 +47,36 @@ card-word-requires c κs =
     let i = card-from (start c .pre .0) (read c) (c .before .loop .inv .1) (more c) in
     (read c .sized, i .0, i .1, word-in (read c .sized) toFirst (lit< tt))
 
+next-card-requires : tie.Need-next-card-requires Inv-loop μ-loop
+next-card-requires c κs =
+    let i = c .before in
+    (start i .pre .0, read i, record { n = i .before .loop .n; inside = more i; is = i .before .loop .inv .1 .place })
+
 note-history-requires : tie.Need-note-history-requires Inv-loop μ-loop
 note-history-requires c κs =
-    let k = c .before in
+    let k = c .before .before in
     let i = k .before in
     let e = k .card-word .ensures in
     (read i .sized, history-ends (start i .pre .0) (read i) (i .before .loop .inv .1) (more i) e, history-codes (start i .pre .0) (read i) (i .before .loop .inv .1) (more i) e, history-takes (start i .pre .0) (read i) (i .before .loop .inv .1) (more i) e)
 
-next-card-requires : tie.Need-next-card-requires Inv-loop μ-loop
-next-card-requires c κs =
-    let i = c .before .before .before .before .before in
-    (start i .pre .0, read i, record { n = i .before .loop .n; inside = more i; is = i .before .loop .inv .1 .place })
-
 loop-again : tie.Need-loop-again Inv-loop μ-loop
 loop-again c =
-    let n = c .before .before .before in
-    let i = n .before .before .before in
+    let k = c .before .before .before .before in
+    let i = k .before .before in
     let l = i .before .loop in
-    let e = n .note-history .ensures in (
+    let e = c .before .before .note-history .ensures in (
       ap length e ∙ history-long _ _ _ ∙ l .inv .0,
-      passing-next (start i .pre .0) (read i) (l .inv .1) (more i) (n .before .before .card-word .ensures) refl e (c .next-card .ensures .next-is (l .n) (more i) (l .inv .1 .place)),
+      passing-next (start i .pre .0) (read i) (l .inv .1) (more i) (k .before .card-word .ensures) refl e (k .next-card .ensures .next-is (l .n) (more i) (l .inv .1 .place)),
     )
 
 -- after the loop, with the header read before it
 abbrev begun : tie.After-loop Inv-loop μ-loop → tie.Start Inv-loop μ-loop
 begun c = c .before .before .before .before .before .before .before .before
 
-add-cards : tie.Need-add-t13 Inv-loop μ-loop
+add-cards : tie.Need-add-t14 Inv-loop μ-loop
 add-cards c = omega (arith, held-room (begun c .pre .0) (c .before .before .before .before .before .header-of .ensures), begun c .pre .2)
 
-add-entries : tie.Need-add-t20 Inv-loop μ-loop
+add-entries : tie.Need-add-t21 Inv-loop μ-loop
 add-entries c = omega (arith, filed-word (begun c .pre .0) (c .before .before .before .before .before .header-of .ensures), faults-held-few _ (begun c .pre .0), begun c .pre .3)
 
 returns : tie.Need-returns Inv-loop μ-loop
@@ -101,10 +101,10 @@ note-store-spec =
     (λ c κs. (c .before .before .before .before .before .pre .0, c .before .before .header-of .ensures))
     loop-holds
     card-word-requires
-    (λ c. omega (arith, few (c .before)))
-    (λ c. omega (arith, few (c .before .before), start (c .before .before) .pre .2))
-    note-history-requires
     next-card-requires
+    (λ c. omega (arith, few (c .before .before)))
+    (λ c. omega (arith, few (c .before .before .before), start (c .before .before .before) .pre .2))
+    note-history-requires
     (λ c. omega (arith, c .before .before .before .before .before .before .loop-test .taken))
     loop-again
     add-cards
