@@ -48,6 +48,17 @@ fn a_line_for_each_code_then_the_totals() {
     assert_eq!(text(&[&two, &one]), both);
 }
 
+/// The example of docs/REPORT.md, as the page has it.
+#[test]
+fn the_example_of_the_page() {
+    let first = reader_of(&[("7", &[(100, 12), (130, 12)]), ("07", &[]), ("007", &[(90, 40)])]);
+    let second = reader_of(&[("7", &[(110, 12)]), ("A-1", &[]), ("B-22", &[])]);
+    let text = text(&[&first, &second]);
+    let indented: String = text.lines().map(|line| format!("    {line}\n")).collect();
+    let page = include_str!("../../../docs/REPORT.md");
+    assert!(page.contains(&format!("\n\n{indented}\n")), "docs/REPORT.md has another text than\n{indented}");
+}
+
 #[test]
 fn the_same_serial_in_two_stores_is_two_cards() {
     let one = reader_of(&[("7", &[(10, 3), (20, 3)])]);
