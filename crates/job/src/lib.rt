@@ -11,7 +11,7 @@ ghost use Rattle.job.specs.Counts.{tallyOf};
 
 pub mod answers; // answers.rt: answers as text
 pub mod fields; // fields.rt: a line taken apart into its fields
-pub mod letters; // letters.rt: the bytes of a line, by name
+mod letters; // letters.rt: the bytes of a line, by name
 pub mod tally; // tally.rt: what a job counts
 mod turn; // turn.rt: one line, from its bytes to its answer
 

@@ -100,22 +100,22 @@ abbrev pub Reached : List ℕ → List ℕ → List ℕ → Type 0
 Reached run ns scratch = Counted run ns scratch × (runSound run ns ≡ true)
 
 -- the text of the report over a run
-abbrev pub textOf : List ℕ → List ℕ → List ℕ
-textOf run ns = reportText (allHistories (pieces run ns))
+abbrev pub textFor : List ℕ → List ℕ → List ℕ
+textFor run ns = reportText (allHistories (pieces run ns))
 
 module _ (run ns scratch out : List ℕ) where
   abbrev clean : List ℕ
   clean = cleaned (needOf run ns) scratch
 
   abbrev doneReport : Reported
-  doneReport = record { number = 0; count = length (textOf run ns); out = textOf run ns ++ drop (length (textOf run ns)) out; scratch = clean }
+  doneReport = record { number = 0; count = length (textFor run ns); out = textFor run ns ++ drop (length (textFor run ns)) out; scratch = clean }
 
   pub report-cases : (P : Reported → Type 0)
       → (length scratch < needOf run ns → P (refusedReport 11 out scratch))
       → (needOf run ns ≤ length scratch → (length ns ≡ 0) ⊎ (mostStores < length ns) → P (refusedReport 14 out clean))
       → (Counted run ns scratch → runSound run ns ≡ false → P (refusedReport 3 out clean))
-      → (Reached run ns scratch → length out < length (textOf run ns) → P (refusedReport 10 out clean))
-      → (Reached run ns scratch → length (textOf run ns) ≤ length out → P doneReport)
+      → (Reached run ns scratch → length out < length (textFor run ns) → P (refusedReport 10 out clean))
+      → (Reached run ns scratch → length (textFor run ns) ≤ length out → P doneReport)
       → P (reportCall run ns scratch out)
   unfolding reportCall
   report-cases P short stores unsound small written =
@@ -125,9 +125,9 @@ module _ (run ns scratch out : List ℕ) where
       rw e (by-cases (between 1 mostStores (length ns))
       (λ b. let c = between-is 1 mostStores (length ns) .0 b in
       rw b (by-cases (runSound run ns)
-      (λ ok. rw ok (by-cases (ltb (length out) (length (textOf run ns)))
-      (λ t. rw t (small ((a, c .0, c .1), ok) (ltb-true (length out) (length (textOf run ns)) t)))
-      (λ t. rw t (written ((a, c .0, c .1), ok) (ltb-false (length out) (length (textOf run ns)) t)))))
+      (λ ok. rw ok (by-cases (ltb (length out) (length (textFor run ns)))
+      (λ t. rw t (small ((a, c .0, c .1), ok) (ltb-true (length out) (length (textFor run ns)) t)))
+      (λ t. rw t (written ((a, c .0, c .1), ok) (ltb-false (length out) (length (textFor run ns)) t)))))
       (λ no. rw no (unsound (a, c .0, c .1) no))))
       (λ b. rw b (stores a (outside (length ns) b)))))
     where
@@ -148,8 +148,8 @@ pub record ReportNumbers (run ns scratch out : List ℕ) (k : ℕ) : Type 0 wher
   pub short : (k ≡ 11) ↔ (length scratch < needOf run ns)
   pub stores : (k ≡ 14) ↔ ((needOf run ns ≤ length scratch) × ((length ns ≡ 0) ⊎ (mostStores < length ns)))
   pub unsound : (k ≡ 3) ↔ (Counted run ns scratch × (runSound run ns ≡ false))
-  pub small : (k ≡ 10) ↔ (Reached run ns scratch × (length out < length (textOf run ns)))
-  pub done : (k ≡ 0) ↔ (Reached run ns scratch × (length (textOf run ns) ≤ length out))
+  pub small : (k ≡ 10) ↔ (Reached run ns scratch × (length out < length (textFor run ns)))
+  pub done : (k ≡ 0) ↔ (Reached run ns scratch × (length (textFor run ns) ≤ length out))
   pub none-else : List·Memᴰ k (11 ∷ 14 ∷ 3 ∷ 10 ∷ 0 ∷ [])
 
 module _ (run ns scratch out : List ℕ) where
@@ -227,11 +227,11 @@ pub record Written (text out : List ℕ) (r : Reported) : Type 0 where
   pub rest : drop (r .count) (r .out) ≡ drop (r .count) out
   pub long : length (r .out) ≡ length out
 
-pub report-written : (run ns scratch out : List ℕ) → reportCall run ns scratch out .number ≡ 0 → Written (textOf run ns) out (reportCall run ns scratch out)
+pub report-written : (run ns scratch out : List ℕ) → reportCall run ns scratch out .number ≡ 0 → Written (textFor run ns) out (reportCall run ns scratch out)
 report-written run ns scratch out =
-    report-cases run ns scratch out (λ r. r .number ≡ 0 → Written (textOf run ns) out r)
+    report-cases run ns scratch out (λ r. r .number ≡ 0 → Written (textFor run ns) out r)
     (λ a e. absurd (omega arith)) (λ a o e. absurd (omega arith)) (λ a no e. absurd (omega arith)) (λ a t e. absurd (omega arith))
-    (λ a t e. let text = textOf run ns in
+    (λ a t e. let text = textFor run ns in
     let rest = drop (length text) out in
     record {
       count-is = refl;

@@ -77,16 +77,16 @@ highest-snoc ds d =
     (λ t. rw t (omega (arith, ltb-true (highest ds) d t, highest-more ds d)))
     (λ t. rw t (omega (arith, ltb-false (highest ds) d t, highest-more ds d)))
 
--- a row tells of faults on these days, on so many cards, none behind card n
-record Tells (n : ℕ) (ds : List ℕ) (c : ℕ) (r : Row) : Type 0 where
+-- a row speaks of faults on these days, on so many cards, none behind card n
+record Speaks (n : ℕ) (ds : List ℕ) (c : ℕ) (r : Row) : Type 0 where
   entries-are : r .entries ≡ length ds
   cards-are : r .cards ≡ c
   earliest-is : r .earliest ≡ lowest ds
   latest-is : r .latest ≡ highest ds
   seen-few : r .seen ≤ n
 
-tells-same : {m n c d : ℕ} {ds es : List ℕ} {r : Row} → m ≤ n → ds ≡ es → c ≡ d → Tells m ds c r → Tells n es d r
-tells-same p q s t =
+speaks-same : {m n c d : ℕ} {ds es : List ℕ} {r : Row} → m ≤ n → ds ≡ es → c ≡ d → Speaks m ds c r → Speaks n es d r
+speaks-same p q s t =
     record {
       entries-are = t .entries-are ∙ ap length q;
       cards-are = t .cards-are ∙ s;
@@ -96,9 +96,9 @@ tells-same p q s t =
     }
 
 -- one day more
-tells-day : (m n : ℕ) (ds : List ℕ) (c d : ℕ) (r : Row) → Tells m ds c r → Tells n (ds ++ (d ∷ [])) (cardsAfter c (r .seen) n) (noteRow n d r)
+speaks-day : (m n : ℕ) (ds : List ℕ) (c d : ℕ) (r : Row) → Speaks m ds c r → Speaks n (ds ++ (d ∷ [])) (cardsAfter c (r .seen) n) (noteRow n d r)
 unfolding noteRow
-tells-day m n ds c d r t =
+speaks-day m n ds c d r t =
     record {
       entries-are = omega (arith, t .entries-are, length-append ds (d ∷ []));
       cards-are = ap (λ (x : ℕ). cardsAfter x (r .seen) n) (t .cards-are);
@@ -108,21 +108,21 @@ tells-day m n ds c d r t =
     }
 
 -- more days of the card that was counted last: no card more
-tells-on : (n : ℕ) (ds es : List ℕ) (c : ℕ) (r : Row) → r .seen ≡ n → Tells n ds c r → Tells n (ds ++ es) c (noteDays n r es)
+speaks-on : (n : ℕ) (ds es : List ℕ) (c : ℕ) (r : Row) → r .seen ≡ n → Speaks n ds c r → Speaks n (ds ++ es) c (noteDays n r es)
 unfolding noteRow cardsAfter
-tells-on n ds [] c r e t = tells-same (omega arith) (sym (append-nil ds)) refl t
-tells-on n ds (d ∷ es) c r e t =
-    tells-same (omega arith) (append-snoc ds d es) refl
-    (tells-on n (ds ++ (d ∷ [])) es c (noteRow n d r) refl (tells-same (omega arith) refl (rw (eq-eqb (r .seen) n e)) (tells-day n n ds c d r t)))
+speaks-on n ds [] c r e t = speaks-same (omega arith) (sym (append-nil ds)) refl t
+speaks-on n ds (d ∷ es) c r e t =
+    speaks-same (omega arith) (append-snoc ds d es) refl
+    (speaks-on n (ds ++ (d ∷ [])) es c (noteRow n d r) refl (speaks-same (omega arith) refl (rw (eq-eqb (r .seen) n e)) (speaks-day n n ds c d r t)))
 
 -- the days of the next card: one card more, if there is a day
-tells-history : (n : ℕ) (ds es : List ℕ) (c : ℕ) (r : Row) → Tells n ds c r → Tells (suc n) (ds ++ es) (c + bit (ltb 0 (length es))) (noteDays (suc n) r es)
+speaks-history : (n : ℕ) (ds es : List ℕ) (c : ℕ) (r : Row) → Speaks n ds c r → Speaks (suc n) (ds ++ es) (c + bit (ltb 0 (length es))) (noteDays (suc n) r es)
 unfolding noteRow cardsAfter
-tells-history n ds [] c r t = tells-same (omega arith) (sym (append-nil ds)) (omega arith) t
-tells-history n ds (d ∷ es) c r t =
-    tells-same (omega arith) (append-snoc ds d es) (rw (lt-ltb 0 (suc (length es)) (omega arith)))
-    (tells-on (suc n) (ds ++ (d ∷ [])) es (c + 1) (noteRow (suc n) d r) refl
-    (tells-same (omega arith) refl (rw (ne-eqb (r .seen) (suc n) (omega (arith, t .seen-few)))) (tells-day n (suc n) ds c d r t)))
+speaks-history n ds [] c r t = speaks-same (omega arith) (sym (append-nil ds)) (omega arith) t
+speaks-history n ds (d ∷ es) c r t =
+    speaks-same (omega arith) (append-snoc ds d es) (rw (lt-ltb 0 (suc (length es)) (omega arith)))
+    (speaks-on (suc n) (ds ++ (d ∷ [])) es (c + 1) (noteRow (suc n) d r) refl
+    (speaks-same (omega arith) refl (rw (ne-eqb (r .seen) (suc n) (omega (arith, t .seen-few)))) (speaks-day n (suc n) ds c d r t)))
 
 -- all histories
 
@@ -139,17 +139,17 @@ cards-more k h hs =
     rw (length-map (ofCode k h) (λ (f : Slip). f .day))
     (by-cases (ltb 0 (length (ofCode k h))) (λ e. rw e (omega arith)) (λ e. rw e (omega arith)))
 
-tells-all : (k : ℕ) (rows : List ℕ) (n : ℕ) (hs : List (List Slip)) (ds : List ℕ) (c : ℕ) → length rows ≡ rowsLong → codesFit (join hs) ≡ true → Tells n ds c (rowOf rows k)
-    → Tells (n + length hs) (ds ++ daysOf k hs) (c + cardsWith k hs) (rowOf (noteAll rows n hs) k)
+speaks-all : (k : ℕ) (rows : List ℕ) (n : ℕ) (hs : List (List Slip)) (ds : List ℕ) (c : ℕ) → length rows ≡ rowsLong → codesFit (join hs) ≡ true → Speaks n ds c (rowOf rows k)
+    → Speaks (n + length hs) (ds ++ daysOf k hs) (c + cardsWith k hs) (rowOf (noteAll rows n hs) k)
 unfolding noteAll
-tells-all k rows n [] ds c l ok t = tells-same (omega arith) (sym (append-nil ds)) (omega (arith, cards-none k)) t
-tells-all k rows n (h ∷ hs) ds c l ok t =
+speaks-all k rows n [] ds c l ok t = speaks-same (omega arith) (sym (append-nil ds)) (omega (arith, cards-none k)) t
+speaks-all k rows n (h ∷ hs) ds c l ok t =
     let p = codes-parts h (join hs) ok in
     let b = bit (ltb 0 (length (daysIn k h))) in
-    let one : Tells (suc n) (ds ++ daysIn k h) (c + b) (rowOf (noteHistory rows (suc n) h) k) =
-    rw (history-row k rows (suc n) h l (p .0)) (tells-history n ds (daysIn k h) c (rowOf rows k) t) in
-    tells-same (omega arith) (append-assoc ds (daysIn k h) (daysOf k hs) ∙ ap (λ (es : List ℕ). ds ++ es) (sym (days-append k h (join hs)))) (omega (arith, cards-more k h hs))
-    (tells-all k (noteHistory rows (suc n) h) (suc n) hs (ds ++ daysIn k h) (c + b) (history-long rows (suc n) h ∙ l) (p .1) one)
+    let one : Speaks (suc n) (ds ++ daysIn k h) (c + b) (rowOf (noteHistory rows (suc n) h) k) =
+    rw (history-row k rows (suc n) h l (p .0)) (speaks-history n ds (daysIn k h) c (rowOf rows k) t) in
+    speaks-same (omega arith) (append-assoc ds (daysIn k h) (daysOf k hs) ∙ ap (λ (es : List ℕ). ds ++ es) (sym (days-append k h (join hs)))) (omega (arith, cards-more k h hs))
+    (speaks-all k (noteHistory rows (suc n) h) (suc n) hs (ds ++ daysIn k h) (c + b) (history-long rows (suc n) h ∙ l) (p .1) one)
 
 -- what a row says of a code over some histories
 pub record Says (k : ℕ) (hs : List (List Slip)) (r : Row) : Type 0 where
@@ -159,14 +159,14 @@ pub record Says (k : ℕ) (hs : List (List Slip)) (r : Row) : Type 0 where
   pub latest-is : r .latest ≡ latest k hs
   pub seen-few : r .seen ≤ length hs
 
-tells-blank : (k : ℕ) → Tells 0 [] 0 (rowOf blank k)
+speaks-blank : (k : ℕ) → Speaks 0 [] 0 (rowOf blank k)
 unfolding lowest highest
-tells-blank k = rw (blank-row k) (record { entries-are = refl; cards-are = refl; earliest-is = refl; latest-is = refl; seen-few = omega arith })
+speaks-blank k = rw (blank-row k) (record { entries-are = refl; cards-are = refl; earliest-is = refl; latest-is = refl; seen-few = omega arith })
 
 pub rows-say : (hs : List (List Slip)) → codesFit (join hs) ≡ true → (k : ℕ) → Says k hs (rowOf (noteAll blank 0 hs) k)
 unfolding entriesOf earliest latest
 rows-say hs ok k =
-    let t = tells-all k blank 0 hs [] 0 blank-long ok (tells-blank k) in
+    let t = speaks-all k blank 0 hs [] 0 blank-long ok (speaks-blank k) in
     record {
       entries-are = t .entries-are ∙ length-map (ofCode k (join hs)) (λ (f : Slip). f .day);
       cards-are = omega (arith, t .cards-are);
