@@ -34,17 +34,24 @@ pub fn len(n: u32) -> usize {
     (4 + n % 13) as usize
 }
 
+// How many cards are numbered, and the highest day and code.
+const CARDS: u32 = 1024;
+
+const MOST_DAY: u32 = 65535;
+
+const MOST_CODE: u32 = 9999;
+
 // The number a step on. Cards are numbered from 0, days and codes from 1.
 pub fn next_card(n: u32, step: u32) -> u32 {
-    (n % 1024 + step % 1024) % 1024
+    (n % CARDS + step % CARDS) % CARDS
 }
 
 pub fn next_day(day: u32, step: u32) -> u32 {
-    (day % 65535 + step % 65535 + 65534) % 65535 + 1
+    (day % MOST_DAY + step % MOST_DAY + MOST_DAY - 1) % MOST_DAY + 1
 }
 
 pub fn next_code(code: u32, step: u32) -> u32 {
-    (code % 9999 + step % 9999 + 9998) % 9999 + 1
+    (code % MOST_CODE + step % MOST_CODE + MOST_CODE - 1) % MOST_CODE + 1
 }
 
 // A word a step on, modulo 2^32.

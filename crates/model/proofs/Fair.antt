@@ -17,7 +17,7 @@ use Rattle.model.specs.Shape.{topOf, cardWidth}
 use Rattle.model.specs.Model.{Fault, Card, Store, cards, histories, held, faultsHeld, size, bucket, is, faultCellsOf}
 use Rattle.model.specs.Layout.{Cell, atsOf, faultWidth, cardCell, faultCell, freeCell, cardChains, faultChains, eachOnce, firstUpper, shapeOk, goodCard, goodBuckets, cellsOk, serialsOk, loadOk, fair}
 use Rattle.model.proofs.Lists.{same-is, all-from, from-all}
-use Rattle.model.proofs.Sums.{bit, count, total-append, total-map, total-flat, total-maps, length-total, distinct-total, total-distinct}
+use Rattle.model.proofs.Sums.{bit, count, kept-count, total-append, total-map, total-flat, total-maps, length-total, distinct-total, total-distinct}
 use Rattle.model.proofs.Shapes.{top-most, shaped, cards-top}
 use Rattle.model.proofs.Each.{many, Each, each-is, is-each, each-moved}
 
@@ -116,8 +116,7 @@ faultCells-moved s t h =
 
 -- how many cards have a serial
 pub times-total : (y : List ℕ) (cs : List Card) → length (keep (is y) cs) ≡ total (named y) cs
-times-total y [] = refl
-times-total y (c ∷ cs) = let e = times-total y cs in by-cases (is y c) (λ k. rw k (omega arith)) (λ k. rw k (omega arith))
+times-total y cs = kept-count (is y) cs
 
 serials-named : (y : List ℕ) (cs : List Card) → total (λ z. bit (same y z)) (map (λ (c : Card). c .serial) cs) ≡ total (named y) cs
 serials-named y cs = total-map (λ (z : List ℕ). bit (same y z)) (λ (c : Card). c .serial) cs

@@ -1,4 +1,4 @@
--- Laws of the lists that a report is made of. What is kept of a list is counted by adding up a 1 for each element that the test takes (`kept-count`), so every number
+-- Laws of the lists that a report is made of. What is kept of a list is counted by adding up a 1 for each element that the test takes (`kept-count` in Sums), so every number
 -- of the report is a sum, and sums over parts are the sum over the whole. The numbers from 1 on rise and have each of theirs once (`from-rises`, `from-once`), and
 -- what is kept of a rising list rises (`keep-rises`). The lowest and the highest of some numbers bound all of them and are among them. None of these knows of cards.
 use Prim.Native.Nat.{ℕ, zero, suc, _+_, _≤_, _<_}
@@ -21,10 +21,6 @@ use Rattle.model.proofs.Walks.{times-count, every-in}
 -- sums
 
 module _ {A : Type 0} where
-  pub kept-count : (f : A → Bool) (l : List A) → length (keep f l) ≡ total (λ x. bit (f x)) l
-  kept-count f [] = refl
-  kept-count f (x ∷ l) = let e = kept-count f l in by-cases (f x) (λ k. rw k (omega arith)) (λ k. rw k (omega arith))
-
   pub total-same : (f g : A → ℕ) (l : List A) → ((x : A) → f x ≡ g x) → total f l ≡ total g l
   total-same f g [] h = refl
   total-same f g (x ∷ l) h = omega (arith, h x, total-same f g l h)

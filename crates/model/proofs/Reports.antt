@@ -20,13 +20,13 @@ use Rattle.model.specs.Plain.{Slip, slip, Entry, entry, plain}
 use Rattle.model.specs.Meaning.{times, In}
 use Rattle.model.specs.Report.{historiesIn, allHistories, ofCode, entriesOf, cardsWith, daysOf, earliest, latest, codesIn, numbersLine, rateLine}
 use Rattle.model.proofs.Lists.{keep-keep, join-append, Every, every-append, join-every, every-imp, map-every}
-use Rattle.model.proofs.Sums.{bit, total-append, total-map}
+use Rattle.model.proofs.Sums.{bit, kept-count, total-append, total-map}
 use Rattle.model.proofs.Walks.{times-count, all-every}
 use Rattle.model.proofs.Fair.{faults-total}
 use Rattle.model.proofs.Sound.{sound-good}
 use Rattle.model.proofs.Valid.{FaultMeans, fault-means}
 use Rattle.model.proofs.Demand2.{entries-slips}
-use Rattle.model.proofs.ReportLaws.{kept-count, total-same, total-zero, total-add, join-long, join-kept, keep-weighs, weighty-few, weighty-some, Rises, keep-rises, from-rises, from-once, kept-from, lowest-bounds, highest-bounds, lowest-in, highest-in}
+use Rattle.model.proofs.ReportLaws.{total-same, total-zero, total-add, join-long, join-kept, keep-weighs, weighty-few, weighty-some, Rises, keep-rises, from-rises, from-once, kept-from, lowest-bounds, highest-bounds, lowest-in, highest-in}
 
 -- the totals
 

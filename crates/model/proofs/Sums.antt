@@ -34,6 +34,11 @@ abbrev pub count : ℕ → List ℕ → ℕ
 count x l = total (λ y. bit (eqb x y)) l
 
 module _ {ℓ} {A : Type ℓ} where
+  -- the elements that pass a test
+  pub kept-count : (f : A → Bool) (l : List A) → length (keep f l) ≡ total (λ x. bit (f x)) l
+  kept-count f [] = refl
+  kept-count f (x ∷ l) = let e = kept-count f l in by-cases (f x) (λ k. rw k (omega arith)) (λ k. rw k (omega arith))
+
   pub total-append : (f : A → ℕ) (xs ys : List A) → total f (xs ++ ys) ≡ total f xs + total f ys
   total-append f [] ys = omega arith
   total-append f (x ∷ xs) ys = omega (arith, total-append f xs ys)

@@ -18,15 +18,14 @@ use Rattle.model.specs.Layout.{Cell, headOr, chained, first, freeCell, f
 use Rattle.model.specs.Meaning.{times, In, ExactlyOnce, Leads}
 use Rattle.model.proofs.Lists.{length-none, keep-keep, keep-drop, Every}
 use Rattle.model.proofs.Tables.{length-table, table-at}
-use Rattle.model.proofs.Sums.{bit, count, bit-le, bit-same, bit-other, total-join, total-one, total-keep}
+use Rattle.model.proofs.Sums.{bit, count, kept-count, bit-le, bit-same, bit-other, total-join, total-one, total-keep}
 use Rattle.model.proofs.Each.{many, Each, cover, count-cover, count-full}
 use Rattle.model.proofs.Chains.{Memory, Stand}
 
 -- members
 
 pub times-count : (i : ℕ) (l : List ℕ) → times i l ≡ count i l
-times-count i [] = refl
-times-count i (x ∷ l) = let e = times-count i l in by-cases (eqb i x) (λ k. rw k (omega arith)) (λ k. rw k (omega arith))
+times-count i l = kept-count (eqb i) l
 
 pub every-in : (P : ℕ → Type 0) (l : List ℕ) → Every P l → (i : ℕ) → In i l → P i
 every-in P [] r i h = absurd (omega arith)

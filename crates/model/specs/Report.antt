@@ -1,5 +1,5 @@
 -- Faults by code: one report over up to eight stores that stand one behind another in one run of words.
-use Prim.Native.Nat.{ℕ, _+_, _*_, _/_, _%_, min, max}
+use Prim.Native.Nat.{ℕ, _*_, _/_, _%_, min, max}
 use mathlib.Core.List.{List, [], _∷_, _++_, map}
 use mathlib.Core.Bool.{Bool, not, _&&_, cond}
 use lib.Dec.{ltb, eqb}

@@ -28,7 +28,7 @@ use Rattle.report.proofs.SoundRuns.{sound-codes}
 abbrev pub historiesOf : List Card → List (List Slip)
 historiesOf cs = map (λ e. e .slips) (map entry cs)
 
--- with n cards of the store behind, of `all` before it
+-- with n cards of the store behind, and `before` cards of the stores before it
 pub record Passing (w : List ℕ) (before : ℕ) (rows₀ rows : List ℕ) (at : At) (n : ℕ) : Type 0 where
   pub few : n ≤ held (decode w)
   pub place : at ≡ placeOf (decode w) n

@@ -1,10 +1,10 @@
 -- What the model's theorems say of a report, said of what the program gave and wrote: all that it gives and leaves is what the model's report has
--- (`gave-is`). And over stores that were opened fresh and changed by calls and jobs only: by demand 3 each is sound, so the report is never refused for
--- them (`stories-sound`), and its entries are the faults accepted less the faults gone, added up over the stores (`stories-entries`).
+-- (`gave-is`). And over stores that were opened fresh and changed by calls and jobs only: by demand 3 each is sound, so no report over them is refused by 3
+-- (`never-unsound`), and the entries that it wrote are the faults accepted less the faults gone, added up over the stores (`totals-written`).
 use mathlib.Core.Path.{_≡_, refl, sym, ap, _∙_}
 use mathlib.Core.Bool.{true}
 use mathlib.Core.List.{List, [], _∷_, _++_, map}
-use Prim.Native.Nat.{ℕ, _-_}
+use Prim.Native.Nat.{ℕ}
 use native.Mathlib.Omega.{arith}
 use borrow.Author.Tests.{eq-eqb}
 use lib.ListN.{length, take, length-append}

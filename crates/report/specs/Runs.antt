@@ -1,4 +1,4 @@
--- A run of stores as the code goes along it: what is lent for one store, and what is left at a place.
+-- A run of stores as the code goes along it: the words and the test of one store, a scratch that is clean, and all histories noted.
 use mathlib.Core.Path.{_≡_}
 use mathlib.Core.Bool.{Bool, _&&_}
 use mathlib.Core.List.{List}

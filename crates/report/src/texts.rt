@@ -178,10 +178,7 @@ pub fn put_report(out: &mut [u8], rows: &[u32], t: Totals) -> Wrote
 {
     let n = rows_len(rows) + totals_len(t);
     if out.len() < n {
-        return Wrote {
-            number: numbers::SHORT_ROOM,
-            count: 0,
-        };
+        return crate::refuse(numbers::SHORT_ROOM);
     }
     let p = put_rows(out, 0, rows);
     let q = put_totals(out, p, t);

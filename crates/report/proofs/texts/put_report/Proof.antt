@@ -14,8 +14,8 @@ use Rattle.report.proofs.texts.put_report.Tie as tie
 
 returns : tie.Need-returns
 returns c =
-    let t = c .before .before .before .before .before .args in
-    report-refused (textOf (now (t .rows)) (t .t)) (now (t .out)) (omega (arith, text-long (now (t .rows)) (t .t)))
+    let t = c .before .before .before .before .before .before .args in
+    rw (c .refuse .ensures) (report-refused (textOf (now (t .rows)) (t .t)) (now (t .out)) (omega (arith, text-long (now (t .rows)) (t .t))))
 
 -- lines and totals are one text
 whole : (c : tie.After-slice-known3) → let t = c .before .before .before .before .before .before .before .before .before .before .before .before .before .args in
@@ -42,6 +42,7 @@ put-report-spec =
     (λ c κs. search needs)
     (λ c κs. search needs)
     (λ c. search needs)
+    (λ c κs. tt)
     returns
     (λ c κs. search needs)
     (λ c κs. search needs)
