@@ -1,7 +1,7 @@
 #!/usr/bin/env python3
-"""computed.py: writes crates/model/proofs/Computed.antt, what the definitions of document 01 compute.
+"""computed.py: writes crates/model/proofs/Computed.antt, what the definitions of documents 01 and 02 compute.
 
-Every expected value is worked out here from document 01 by hand, or is a job from outside with its
+Every expected value is worked out here from the documents by hand, or is a job from outside with its
 answers (NNN.in, NNN.out of tools/vectors); antt computes the definitions and compares by `refl`. Run
 it from anywhere; it writes the one file, the same each time.
 """
@@ -15,6 +15,9 @@ SMALL = sorted(name[:-3] for name in os.listdir(VECTORS) if name.endswith(".in")
 
 WORKED = b"E 7\nE 007\nF 007 100 12\nS 7\nS 007\nE 7\nW 007\nS 007\nF 7 0 5\n"
 WORKED_OUT = b"0 0 0 0\n0 1 0 0\n0 2 0 1\n0 1 0 0\n0 2 0 1 100:12\n6 1 0 0\n0 2 0 1 100:12\n7 1 0 0\n5 0 0 0\n"
+
+LATE = b"E 7\nF 7 20 9\nF 7 10 5\nF 7 20 8\nF 7 10 4\nS 7\n"
+LATE_OUT = b"0 0 0 0\n0 1 0 1\n0 1 0 2\n0 1 0 3\n0 1 0 4\n0 1 0 4 10:5 10:4 20:9 20:8\n"
 
 
 def unfoldable():
@@ -69,7 +72,7 @@ def words(cards, faults, held, faults_held, free, free_faults, buckets, card_cel
 def main():
     modules = unfoldable()
     out = []
-    out.append("-- What the definitions compute: document 01's worked job, its examples that run, and outside job vectors.\n"
+    out.append("-- What the definitions compute: document 01's worked job, its examples that run, late slips, and outside job vectors.\n"
                "-- Written by tools/computed.py; each claim holds by computation alone. Assumes nothing.\n"
                "use Prim.Native.Nat.{ℕ}\n"
                "use mathlib.Core.Path.{_≡_, refl}\n"
@@ -130,6 +133,17 @@ def main():
     out.append(claim("no-lines", "Job.job before (replicate 384 7) [] [] (%s)" % tally(1),
                      "(record { number = 0; lines = 0; bytes = 0; words = before; out = []; scratch = replicate 384 0; tally = %s })" % tally(1),
                      "open-all tallied before"))
+
+    # late slips: the listing goes by day, the fault cells stay as filed
+    filed = words(8, 8, 1, 4, list(range(2, 9)), list(range(5, 9)), {7: 1}, {1: [0, 1, 55 << 24, 0, 0, 0, 1, 4, 4]},
+                  {1: [2, 20, 9], 2: [3, 10, 5], 3: [4, 20, 8], 4: [0, 10, 4]})
+    out.append(named("late-in", LATE))
+    out.append("-- late slips are listed by rising day, equal days as filed, and stand in the words as filed\n"
+               "late-words : List ℕ\nlate-words = %s\n" % numbers(filed))
+    out.append(claim("late", "Job.job before (replicate 384 7) late-in (replicate 90 1) (%s)" % tally(),
+                     "(record { number = 0; lines = 6; bytes = %d; words = late-words; out = %s ++ replicate %d 1; scratch = replicate 384 0; tally = %s })"
+                     % (len(LATE_OUT), numbers(list(LATE_OUT)), 90 - len(LATE_OUT), tally(1, 0, 4, 0, 0, 5)),
+                     "open-all tallied late-in before late-words"))
 
     # bucket 7 of a (16, 7) table
     out.append("-- `7`, `07`, `007` in bucket 7 of a (16, 7) table: split to `07` and `7`, `007`, and joined again\n"

@@ -10,13 +10,14 @@ use native.Mathlib.Omega.{arith}
 use lib.ListN.{length, take}
 use borrow.Author.Tests.{ne-eqb}
 use Rattle.model.specs.Serial.{validSerial}
-use Rattle.model.specs.Model.{Store, historyIn}
+use Rattle.model.specs.Model.{Fault, Store, historyIn}
 use Rattle.model.specs.Layout.{encode, decode, sound}
-use Rattle.model.specs.Calls.{Step, refused, stays, written, enterStep, fileStep, showStep, withdrawStep}
+use Rattle.model.specs.Calls.{Step, refused, stays, listing, written, enterStep, fileStep, showStep, withdrawStep}
 use Rattle.model.specs.Runs.{Act}
 use Rattle.model.specs.Job.{enough, pairText}
 use Rattle.model.proofs.Fair.{Good}
 use Rattle.model.proofs.Look.{look}
+use Rattle.model.proofs.Listing.{listing-length}
 use Rattle.model.proofs.Cases.{show-cases, withdraw-cases}
 use Rattle.model.proofs.Sound.{sound-good, words-stay}
 use Rattle.model.proofs.Jobs.{enough-long}
@@ -125,7 +126,7 @@ module _ (w : List ℕ) (g : Good (decode w)) (p : Parsed) (k : (p .kind ≡ Wit
       record {
         count-is = rw (sym (plan .answer .number-is) ∙ z, listed-all (p .kind) (asked (decode w) p .answer .faults) k) f;
         few = omega (arith, tells .fits, enough-long, tells .count, f);
-        text-is = rw (f, tells .count, d .pairs-are (p .serial) (p .len) (plan .places z) (tells .held), tells .room-is) (pairs-only h _ ∙ sym (pairs-only h _));
+        text-is = rw (f, tells .count, d .pairs-are (p .serial) (p .len) (plan .places z) (tells .held), tells .room-is, ← (listing-length (λ (f : Fault). f .day) h)) (pairs-only (listing h) _ ∙ sym (pairs-only (listing h) _));
       }
 
 -- a line that is refused, and one that asks for no change, leave the store

@@ -2,34 +2,37 @@
 -- contract leaves what the model's job leaves; the model's job is the calls of its answered lines, and what it writes is what those
 -- lines say (`job-says`), so its answer lines, read back, tell what those calls answer. So the program walks with the model's sequence of calls
 -- (`same-words`, `same-events`, `same-tells`), and the model's theorems hold of what the program gave and wrote.
--- One line of a job that was answered: where its answer stands in the output (`line-said`), and when a filing is answered by 9 (`filing-answered`).
+-- One line of a job that was answered: where its answer stands in the output (`line-said`), when a filing is answered by 9 (`filing-answered`),
+-- and that the pairs in the answer of a Show or a Withdraw list the card's history (`showing-answered`, `withdrawing-answered`).
 use mathlib.Core.Path.{_≡_, refl, sym, ap, _∙_}
 use mathlib.Core.Logic.{_↔_}
 use mathlib.Core.Bool.{true}
 use mathlib.Core.List.{List, [], _∷_, _++_, map, append-assoc, append-nil}
-use Prim.Native.Nat.{ℕ, suc, _-_, _≤_, _<_}
+use Prim.Native.Nat.{ℕ, suc, _-_, _*_, _≤_, _<_}
 use native.Mathlib.Omega.{arith}
 use lib.ListN.{length, take, drop, getD}
 use lib.Seq.{length-take-le, take-take, take-at, getD-take}
 use Rattle.model.specs.Serial.{validSerial, validFault}
 use Rattle.model.specs.Layout.{shapeOf, sound, decodeAs, decode}
-use Rattle.model.specs.Calls.{Terms, shapeFor, openCall}
+use Rattle.model.specs.Calls.{Answer, Step, Terms, shapeFor, openCall}
 use Rattle.model.specs.Plain.{Book}
-use Rattle.model.specs.Runs.{Call, run, Event, eventsOf, events, taken, gone, since, Tell, tells, bookAfter, bookTells}
+use Rattle.model.specs.Runs.{Act, Call, Call.acting, run, Event, eventsOf, events, history, taken, gone, since, Tell, tells, bookAfter, bookTells}
 use Rattle.model.specs.Text.{linesOf}
-use Rattle.model.specs.Job.{Line, lineOf, padded, answerText}
+use Rattle.model.specs.Job.{Line, lineOf, padded, enough, listed, answerText}
 use Rattle.model.specs.Deeds.{actsOf, callsOf, stepBy, saidBy, said, wordsBy, wordsByAll, callsIn, callsInAll}
-use Rattle.model.specs.Heard.{numberIn, seenIn, toldIn}
+use Rattle.model.specs.Heard.{numberIn, pairsIn, seenIn, toldIn}
 use Rattle.model.proofs.Demand2.{Agrees, bookOf, emptyBook}
 use Rattle.model.proofs.Demands.{Demand3, Demand2, book-run}
 use Rattle.model.proofs.Look.{look}
+use Rattle.model.proofs.Listed.{ByDay, Listed}
 use Rattle.model.proofs.Outcomes.{sound-run}
-use Rattle.model.proofs.Deeds.{job-calls, said-at, deed-run, deeds-run, deeds-demand3, deeds-demand2, deeds-demand2-from, filing-line}
-use Rattle.model.proofs.Heard.{events-append, tells-append, said-seen, said-told, seen-before, number-read}
+use Rattle.model.proofs.Deeds.{job-calls, said-at, deed-run, deeds-run, deeds-demand3, deeds-demand2, deeds-demand2-from, filing-line, showing-line, withdrawing-line}
+use Rattle.model.proofs.Heard.{events-append, tells-append, said-seen, said-told, seen-before, number-read, pairs-read}
 use Rattle.model.proofs.Jobs.{lines-few}
 use Rattle.store.specs.Leaves.{Opens}
+use Rattle.store.specs.Sequences as Calls
 use Rattle.store.proofs.ProgramDemands as Program
-use Rattle.store.proofs.ProgramDemands.{left-words, opened-words}
+use Rattle.store.proofs.ProgramDemands.{left-words, opened-words, shown-listed, withdrawn-listed}
 use Rattle.job.specs.Counts.{tallyOf}
 use Rattle.job.specs.Sequences.{Left, Works, Made, Made.called, Made.worked, askedIn, leftBy, Meets, AllMeet, endWords, linesDone, linesWritten, seen, seenOf, told, toldOf, callsTo, callsToAll}
 use Rattle.job.specs.declared.tally.Tally.{Tally}
@@ -38,6 +41,16 @@ use Rattle.job.specs.declared.tally.Tally.{Tally}
 pub record Stands (out front text : List ℕ) : Type 0 where
   pub rest : List ℕ
   pub out-is : out ≡ front ++ (text ++ rest)
+
+-- a done line lists all faults of its answer
+
+show-lists : (field : List ℕ) (l : Line) (a : Answer) → l ≡ Line.show field → a .number ≡ 0 → listed l a ≡ a .faults
+unfolding listed
+show-lists field l a e z = rw (e, z)
+
+withdraw-lists : (field : List ℕ) (l : Line) (a : Answer) → l ≡ Line.withdraw field → a .number ≡ 0 → listed l a ≡ a .faults
+unfolding listed
+withdraw-lists field l a e z = rw (e, z)
 
 -- a job on sound words
 
@@ -94,6 +107,12 @@ module _ (w : List ℕ) (ok : sound w ≡ true) (scratch text out : List ℕ) (t
 
     number-written : numberIn (getD (linesWritten l) k []) ≡ stepBy (run w (callsOf (shapeOf w) (take k (linesOf text)))) (actsOf (lineOf (getD (linesOf text) k []))) .answer .number
     number-written = rw (written-is, ← before-is, ← at-is) (number-read w ok (linesDone text l) k line-in)
+
+    -- the pairs in its answer line are those at the front of the room that its step leaves
+    pairs-written : let x = lineOf (getD (linesOf text) k []) in
+        let r = stepBy (run w (callsOf (shapeOf w) (take k (linesOf text)))) (actsOf x) in
+        pairsIn (getD (linesWritten l) k []) ≡ take (2 * listed x (r .answer)) (r .room)
+    pairs-written = rw (written-is, ← before-is, ← at-is) (pairs-read w ok (linesDone text l) k line-in)
 
 -- one call or one job
 
@@ -178,6 +197,15 @@ module _ (w₀ w : List ℕ) (asked : Terms) (o : Opens (openCall w₀ asked) 0 
       let e = opened-words w₀ w asked o in
       rw (same-words w ms a, same-events w opened-sound ms a, e .1) (deeds-demand3 w₀ asked (e .0) (map askedIn ms))
 
+  -- a further Show, or Withdraw, that was answered by 0: what it gave and left lists the history of the serial
+  pub program-shown : (scratch bytes room : List ℕ) (n : ℕ) (g : Calls.Given) → Calls.Meets (endWords w ms) (acting scratch (Act.show bytes n room)) g
+      → g .answer .number ≡ 0 → Listed (history (take n bytes) (seenOf ms) []) room (g .answer .faults) (g .room)
+  program-shown = shown-listed (endWords w ms) (seenOf ms) program-demand3
+
+  pub program-withdrawn : (scratch bytes room : List ℕ) (n : ℕ) (g : Calls.Given) → Calls.Meets (endWords w ms) (acting scratch (Act.withdraw bytes n room)) g
+      → g .answer .number ≡ 0 → Listed (history (take n bytes) (seenOf ms) []) room (g .answer .faults) (g .room)
+  program-withdrawn = withdrawn-listed (endWords w ms) (seenOf ms) program-demand3
+
   -- from an accepted Open on, with an empty list
   pub program-demand2 : AsList w (emptyBook (shapeFor asked)) ms
   program-demand2 =
@@ -223,3 +251,36 @@ module _ (w₀ w : List ℕ) (asked : Terms) (o : Opens (openCall w₀ asked) 0 
         let q = opened-words w₀ w asked o in
         rw (number-written (endWords w ms) (program-demand3 .stays-sound) scratch text out t l e k h, before-events, same-words w ms a, q .1)
         (filing-line w₀ asked (q .0) (map askedIn ms) earlier line field day code is)
+
+    -- its step, and its answer line as it was written
+    abbrev step : Step
+    step = stepBy reached (actsOf (lineOf line))
+
+    abbrev pub answerLine : List ℕ
+    answerLine = getD (linesWritten l) k []
+
+    step-number : numberIn answerLine ≡ 0 → step .answer .number ≡ 0
+    step-number z = sym (number-written (endWords w ms) (program-demand3 .stays-sound) scratch text out t l e k h) ∙ z
+
+    pairs-listed : (x : List ℕ) → listed (lineOf line) (step .answer) ≡ step .answer .faults → Listed (history x seenBefore []) enough (step .answer .faults) (step .room)
+        → ByDay (history x seenBefore []) (pairsIn answerLine)
+    pairs-listed x done q =
+        rw (pairs-written (endWords w ms) (program-demand3 .stays-sound) scratch text out t l e k h, done, q .count) (q .front)
+
+    -- if it shows a card, or withdraws one, and the number written is 0, the pairs written in its answer line list the history of the serial: each
+    -- fault that was accepted for it since its card was last entered, as often, by rising day and those of one day as filed
+    pub showing-answered : (field : List ℕ) → lineOf line ≡ Line.show field → numberIn answerLine ≡ 0
+        → ByDay (history (take (length field) (padded field)) seenBefore []) (pairsIn answerLine)
+    showing-answered field is z =
+        let q = opened-words w₀ w asked o in
+        let r : step .answer .number ≡ 0 → Listed (history (take (length field) (padded field)) seenBefore []) enough (step .answer .faults) (step .room) =
+        rw (before-events, same-words w ms a, q .1) (showing-line w₀ asked (q .0) (map askedIn ms) earlier line field is) in
+        pairs-listed (take (length field) (padded field)) (show-lists field (lineOf line) (step .answer) is (step-number z)) (r (step-number z))
+
+    pub withdrawing-answered : (field : List ℕ) → lineOf line ≡ Line.withdraw field → numberIn answerLine ≡ 0
+        → ByDay (history (take (length field) (padded field)) seenBefore []) (pairsIn answerLine)
+    withdrawing-answered field is z =
+        let q = opened-words w₀ w asked o in
+        let r : step .answer .number ≡ 0 → Listed (history (take (length field) (padded field)) seenBefore []) enough (step .answer .faults) (step .room) =
+        rw (before-events, same-words w ms a, q .1) (withdrawing-line w₀ asked (q .0) (map askedIn ms) earlier line field is) in
+        pairs-listed (take (length field) (padded field)) (withdraw-lists field (lineOf line) (step .answer) is (step-number z)) (r (step-number z))

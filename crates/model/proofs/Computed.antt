@@ -1,4 +1,4 @@
--- What the definitions compute: document 01's worked job, its examples that run, and outside job vectors.
+-- What the definitions compute: document 01's worked job, its examples that run, late slips, and outside job vectors.
 -- Written by tools/computed.py; each claim holds by computation alone. Assumes nothing.
 use Prim.Native.Nat.{ℕ}
 use mathlib.Core.Path.{_≡_, refl}
@@ -23,7 +23,7 @@ use Rattle.model.specs.Report as Report
 
 -- to unfold this is to unfold every definition of the rules and the model
 open-all : List ℕ → List ℕ
-unfolding Code.codeFrom Code.codeOf Table.sizeOk Table.stateOk Table.bucketOf Table.addressOf Table.splits Table.contracts Table.loadFits Table.highMaxp Table.highP Table.lowMaxp Table.lowP Lists.between Serial.allowed Serial.serialOk Serial.validSerial Serial.validFault Shape.entries Shape.cardWidth Shape.mostCards Shape.mostFaults Shape.need Model.comparisons Model.fresh Model.split Model.grown Model.splitScan Model.contract Model.shrunk Model.contractScan Model.placed Model.entered Model.filed Model.removed Model.withdrawn Layout.cardsAt Layout.faultsAt Layout.lengthFor Layout.limitsOk Layout.formatOk Layout.boundsWord Layout.ruleWord Layout.shapeOk Layout.shapeOf Layout.cellAt Layout.last Layout.packed Layout.cardCell Layout.faultCell Layout.freeCell Layout.part Layout.header Layout.directory Layout.segments Layout.front Layout.encode Layout.follow Layout.bytesOf Layout.cardWord Layout.faultWord Layout.readFault Layout.readCard Layout.readChain Layout.decodeAs Layout.eachOnce Layout.goodCard Layout.goodBuckets Layout.cellsOk Layout.serialsOk Layout.loadOk Layout.fair Layout.good Layout.sound Meaning.bucketCells Meaning.freeCells Meaning.historyCells Meaning.freeFaultCells Meaning.heldCells Meaning.filedCells Meaning.bytesIn Meaning.serialIn Words.linkAt Words.newWords Words.placeWords Words.fileWords Words.clearWords Words.giveWords Words.removeWords Words.openWords Words.closeWords Words.movesAt Words.partWords Words.splitWords Words.growWords Words.joinWords Words.shrinkWords Calls.cleaned Calls.enterStep Calls.fileStep Calls.showStep Calls.withdrawStep Calls.admission Calls.swept Calls.call Calls.shapeFor Calls.openCall Plain.bookOpen Plain.bookEnter Plain.bookFile Plain.bookShow Plain.bookWithdraw Text.onto Text.fields Text.dropEmptyLast Text.linesOf Text.isNumber Text.valueFrom Text.digits Text.decimal Job.padded Job.two Job.four Job.fromFields Job.lineOf Job.enough Job.stepOf Job.pairText Job.listed Job.answerText Job.tallyTop Job.plus Job.one Job.entering Job.withdrawing Job.filing Job.counted Job.runLines Job.mostText Job.job Deeds.tidy Heard.numberIn Heard.faultsIn Heard.pairsIn Report.pieces Report.runSound Report.mostNeed Report.needOf Report.allHistories Report.entriesOf Report.cardsWith Report.lowest Report.highest Report.earliest Report.latest Report.codesIn Report.numbersLine Report.codeLine Report.rateLine Report.totalLines Report.reportText Report.reportCall
+unfolding Code.codeFrom Code.codeOf Table.sizeOk Table.stateOk Table.bucketOf Table.addressOf Table.splits Table.contracts Table.loadFits Table.highMaxp Table.highP Table.lowMaxp Table.lowP Lists.between Lists.earlier Lists.byDay Serial.allowed Serial.serialOk Serial.validSerial Serial.validFault Shape.entries Shape.cardWidth Shape.mostCards Shape.mostFaults Shape.need Model.comparisons Model.fresh Model.split Model.grown Model.splitScan Model.contract Model.shrunk Model.contractScan Model.placed Model.entered Model.filed Model.removed Model.withdrawn Layout.cardsAt Layout.faultsAt Layout.lengthFor Layout.limitsOk Layout.formatOk Layout.boundsWord Layout.ruleWord Layout.shapeOk Layout.shapeOf Layout.cellAt Layout.last Layout.packed Layout.cardCell Layout.faultCell Layout.freeCell Layout.part Layout.header Layout.directory Layout.segments Layout.front Layout.encode Layout.follow Layout.bytesOf Layout.cardWord Layout.faultWord Layout.readFault Layout.readCard Layout.readChain Layout.decodeAs Layout.eachOnce Layout.goodCard Layout.goodBuckets Layout.cellsOk Layout.serialsOk Layout.loadOk Layout.fair Layout.good Layout.sound Meaning.bucketCells Meaning.freeCells Meaning.historyCells Meaning.freeFaultCells Meaning.heldCells Meaning.filedCells Meaning.bytesIn Meaning.serialIn Words.linkAt Words.newWords Words.placeWords Words.fileWords Words.clearWords Words.giveWords Words.removeWords Words.openWords Words.closeWords Words.movesAt Words.partWords Words.splitWords Words.growWords Words.joinWords Words.shrinkWords Calls.cleaned Calls.enterStep Calls.fileStep Calls.showStep Calls.withdrawStep Calls.admission Calls.swept Calls.call Calls.shapeFor Calls.openCall Plain.bookOpen Plain.bookEnter Plain.bookFile Plain.bookShow Plain.bookWithdraw Text.onto Text.fields Text.dropEmptyLast Text.linesOf Text.isNumber Text.valueFrom Text.digits Text.decimal Job.padded Job.two Job.four Job.fromFields Job.lineOf Job.enough Job.stepOf Job.pairText Job.listed Job.answerText Job.tallyTop Job.plus Job.one Job.entering Job.withdrawing Job.filing Job.counted Job.runLines Job.mostText Job.job Deeds.tidy Heard.numberIn Heard.faultsIn Heard.pairsIn Report.pieces Report.runSound Report.mostNeed Report.needOf Report.allHistories Report.entriesOf Report.cardsWith Report.lowest Report.highest Report.earliest Report.latest Report.codesIn Report.numbersLine Report.codeLine Report.rateLine Report.totalLines Report.reportText Report.reportCall
 open-all x = x
 
 tallied : ℕ → ℕ → ℕ → ℕ → ℕ → ℕ → Job.Tally
@@ -99,6 +99,18 @@ too-long = refl
 no-lines : Job.job before (replicate 384 7) [] [] (tallied 1 0 0 0 0 0) ≡ (record { number = 0; lines = 0; bytes = 0; words = before; out = []; scratch = replicate 384 0; tally = tallied 1 0 0 0 0 0 })
 unfolding open-all tallied before
 no-lines = refl
+
+-- `E 7⏎F 7 20 9⏎F 7 10 5⏎F 7 20 8⏎F 7 10 4⏎S 7⏎`
+late-in : List ℕ
+late-in = (69 ∷ 32 ∷ 55 ∷ 10 ∷ 70 ∷ 32 ∷ 55 ∷ 32 ∷ 50 ∷ 48 ∷ 32 ∷ 57 ∷ 10 ∷ 70 ∷ 32 ∷ 55 ∷ 32 ∷ 49 ∷ 48 ∷ 32 ∷ 53 ∷ 10 ∷ 70 ∷ 32 ∷ 55 ∷ 32 ∷ 50 ∷ 48 ∷ 32 ∷ 56 ∷ 10 ∷ 70 ∷ 32 ∷ 55 ∷ 32 ∷ 49 ∷ 48 ∷ 32 ∷ 52 ∷ 10 ∷ 83 ∷ 32 ∷ 55 ∷ 10 ∷ [])
+
+-- late slips are listed by rising day, equal days as filed, and stand in the words as filed
+late-words : List ℕ
+late-words = (1 ∷ 8 ∷ 8 ∷ 16 ∷ 0 ∷ 1 ∷ 4 ∷ 2 ∷ 5 ∷ 16 ∷ 32 ∷ 288 ∷ 360 ∷ 384 ∷ 0 ∷ 0 ∷ 32 ∷ 0 ∷ 0 ∷ 0 ∷ 0 ∷ 0 ∷ 0 ∷ 0 ∷ 0 ∷ 0 ∷ 0 ∷ 0 ∷ 0 ∷ 0 ∷ 0 ∷ 0 ∷ 0 ∷ 0 ∷ 0 ∷ 0 ∷ 0 ∷ 0 ∷ 0 ∷ 1 ∷ 0 ∷ 0 ∷ 0 ∷ 0 ∷ 0 ∷ 0 ∷ 0 ∷ 0 ∷ 0 ∷ 0 ∷ 0 ∷ 0 ∷ 0 ∷ 0 ∷ 0 ∷ 0 ∷ 0 ∷ 0 ∷ 0 ∷ 0 ∷ 0 ∷ 0 ∷ 0 ∷ 0 ∷ 0 ∷ 0 ∷ 0 ∷ 0 ∷ 0 ∷ 0 ∷ 0 ∷ 0 ∷ 0 ∷ 0 ∷ 0 ∷ 0 ∷ 0 ∷ 0 ∷ 0 ∷ 0 ∷ 0 ∷ 0 ∷ 0 ∷ 0 ∷ 0 ∷ 0 ∷ 0 ∷ 0 ∷ 0 ∷ 0 ∷ 0 ∷ 0 ∷ 0 ∷ 0 ∷ 0 ∷ 0 ∷ 0 ∷ 0 ∷ 0 ∷ 0 ∷ 0 ∷ 0 ∷ 0 ∷ 0 ∷ 0 ∷ 0 ∷ 0 ∷ 0 ∷ 0 ∷ 0 ∷ 0 ∷ 0 ∷ 0 ∷ 0 ∷ 0 ∷ 0 ∷ 0 ∷ 0 ∷ 0 ∷ 0 ∷ 0 ∷ 0 ∷ 0 ∷ 0 ∷ 0 ∷ 0 ∷ 0 ∷ 0 ∷ 0 ∷ 0 ∷ 0 ∷ 0 ∷ 0 ∷ 0 ∷ 0 ∷ 0 ∷ 0 ∷ 0 ∷ 0 ∷ 0 ∷ 0 ∷ 0 ∷ 0 ∷ 0 ∷ 0 ∷ 0 ∷ 0 ∷ 0 ∷ 0 ∷ 0 ∷ 0 ∷ 0 ∷ 0 ∷ 0 ∷ 0 ∷ 0 ∷ 0 ∷ 0 ∷ 0 ∷ 0 ∷ 0 ∷ 0 ∷ 0 ∷ 0 ∷ 0 ∷ 0 ∷ 0 ∷ 0 ∷ 0 ∷ 0 ∷ 0 ∷ 0 ∷ 0 ∷ 0 ∷ 0 ∷ 0 ∷ 0 ∷ 0 ∷ 0 ∷ 0 ∷ 0 ∷ 0 ∷ 0 ∷ 0 ∷ 0 ∷ 0 ∷ 0 ∷ 0 ∷ 0 ∷ 0 ∷ 0 ∷ 0 ∷ 0 ∷ 0 ∷ 0 ∷ 0 ∷ 0 ∷ 0 ∷ 0 ∷ 0 ∷ 0 ∷ 0 ∷ 0 ∷ 0 ∷ 0 ∷ 0 ∷ 0 ∷ 0 ∷ 0 ∷ 0 ∷ 0 ∷ 0 ∷ 0 ∷ 0 ∷ 0 ∷ 0 ∷ 0 ∷ 0 ∷ 0 ∷ 0 ∷ 0 ∷ 0 ∷ 0 ∷ 0 ∷ 0 ∷ 0 ∷ 0 ∷ 0 ∷ 0 ∷ 0 ∷ 0 ∷ 0 ∷ 0 ∷ 0 ∷ 0 ∷ 0 ∷ 0 ∷ 0 ∷ 0 ∷ 0 ∷ 0 ∷ 0 ∷ 0 ∷ 0 ∷ 0 ∷ 0 ∷ 0 ∷ 0 ∷ 0 ∷ 0 ∷ 0 ∷ 0 ∷ 0 ∷ 0 ∷ 0 ∷ 0 ∷ 0 ∷ 0 ∷ 0 ∷ 0 ∷ 0 ∷ 0 ∷ 0 ∷ 0 ∷ 0 ∷ 0 ∷ 0 ∷ 0 ∷ 0 ∷ 0 ∷ 0 ∷ 0 ∷ 0 ∷ 0 ∷ 0 ∷ 0 ∷ 0 ∷ 0 ∷ 0 ∷ 0 ∷ 0 ∷ 0 ∷ 0 ∷ 0 ∷ 0 ∷ 0 ∷ 0 ∷ 0 ∷ 0 ∷ 1 ∷ 922746880 ∷ 0 ∷ 0 ∷ 0 ∷ 1 ∷ 4 ∷ 4 ∷ 3 ∷ 0 ∷ 0 ∷ 0 ∷ 0 ∷ 0 ∷ 0 ∷ 0 ∷ 0 ∷ 4 ∷ 0 ∷ 0 ∷ 0 ∷ 0 ∷ 0 ∷ 0 ∷ 0 ∷ 0 ∷ 5 ∷ 0 ∷ 0 ∷ 0 ∷ 0 ∷ 0 ∷ 0 ∷ 0 ∷ 0 ∷ 6 ∷ 0 ∷ 0 ∷ 0 ∷ 0 ∷ 0 ∷ 0 ∷ 0 ∷ 0 ∷ 7 ∷ 0 ∷ 0 ∷ 0 ∷ 0 ∷ 0 ∷ 0 ∷ 0 ∷ 0 ∷ 8 ∷ 0 ∷ 0 ∷ 0 ∷ 0 ∷ 0 ∷ 0 ∷ 0 ∷ 0 ∷ 0 ∷ 0 ∷ 0 ∷ 0 ∷ 0 ∷ 0 ∷ 0 ∷ 0 ∷ 0 ∷ 2 ∷ 20 ∷ 9 ∷ 3 ∷ 10 ∷ 5 ∷ 4 ∷ 20 ∷ 8 ∷ 0 ∷ 10 ∷ 4 ∷ 6 ∷ 0 ∷ 0 ∷ 7 ∷ 0 ∷ 0 ∷ 8 ∷ 0 ∷ 0 ∷ 0 ∷ 0 ∷ 0 ∷ [])
+
+late : Job.job before (replicate 384 7) late-in (replicate 90 1) (tallied 0 0 0 0 0 0) ≡ (record { number = 0; lines = 6; bytes = 68; words = late-words; out = (48 ∷ 32 ∷ 48 ∷ 32 ∷ 48 ∷ 32 ∷ 48 ∷ 10 ∷ 48 ∷ 32 ∷ 49 ∷ 32 ∷ 48 ∷ 32 ∷ 49 ∷ 10 ∷ 48 ∷ 32 ∷ 49 ∷ 32 ∷ 48 ∷ 32 ∷ 50 ∷ 10 ∷ 48 ∷ 32 ∷ 49 ∷ 32 ∷ 48 ∷ 32 ∷ 51 ∷ 10 ∷ 48 ∷ 32 ∷ 49 ∷ 32 ∷ 48 ∷ 32 ∷ 52 ∷ 10 ∷ 48 ∷ 32 ∷ 49 ∷ 32 ∷ 48 ∷ 32 ∷ 52 ∷ 32 ∷ 49 ∷ 48 ∷ 58 ∷ 53 ∷ 32 ∷ 49 ∷ 48 ∷ 58 ∷ 52 ∷ 32 ∷ 50 ∷ 48 ∷ 58 ∷ 57 ∷ 32 ∷ 50 ∷ 48 ∷ 58 ∷ 56 ∷ 10 ∷ []) ++ replicate 22 1; scratch = replicate 384 0; tally = tallied 1 0 4 0 0 5 })
+unfolding open-all tallied late-in before late-words
+late = refl
 
 -- `7`, `07`, `007` in bucket 7 of a (16, 7) table: split to `07` and `7`, `007`, and joined again
 card : List ℕ → Model.Card

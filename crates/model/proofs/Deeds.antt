@@ -1,7 +1,8 @@
 -- A job is the calls of its answered lines (`job-calls`). A line on sound words gives what its call gives (`line-step`); line by line, a job on the
 -- store that sound words stand for walks with the calls on the words (`lines-run`). So a job leaves sound words sound (`job-sound`), every sequence
 -- of calls and jobs leaves the words of a sequence of calls (`deeds-run`), and the demands hold of it (`deeds-demand3`, `deeds-limit-of-the-last-open`,
--- `deeds-demand2`, `deeds-demand2-from`), also at every line in the middle of a job (`at-a-line`, `limit-at-a-line`, `filing-line`).
+-- `deeds-demand2`, `deeds-demand2-from`), also at every line in the middle of a job (`at-a-line`, `limit-at-a-line`, `filing-line`,
+-- `showing-line`, `withdrawing-line`).
 use Prim.Native.Nat.{ℕ, zero, suc, _+_, _-_, _≤_, _<_}
 use mathlib.Core.Path.{_≡_, refl, sym, ap, _∙_, subst}
 use mathlib.Core.Logic.{_↔_}
@@ -16,13 +17,14 @@ use Rattle.model.specs.Model.{Store}
 use Rattle.model.specs.Shape.{Shape, need}
 use Rattle.model.specs.Layout.{shapeOf, encode, decodeAs, decode, sound}
 use Rattle.model.specs.Calls.{Terms, shapeFor, Step, openCall}
-use Rattle.model.specs.Runs.{Act, perform, Call, Call.acting, wordsAfter, run, events, taken, gone, since}
+use Rattle.model.specs.Runs.{Act, perform, Call, Call.acting, wordsAfter, run, events, history, taken, gone, since}
 use Rattle.model.specs.Text.{linesOf}
 use Rattle.model.specs.Job.{Line, padded, lineOf, enough, stepOf, answerText, Tally, counted, Run, runLines, started, Finished, mostText, job}
 use Rattle.model.specs.Deeds.{actsOf, tidy, callsBy, callsOf, stepBy, saidBy, said, Deed, Deed.calling, Deed.working, wordsBy, wordsByAll, callsIn, callsInAll}
 use Rattle.model.proofs.Look.{look}
 use Rattle.model.proofs.Sound.{sound-good}
 use Rattle.model.proofs.Fresh.{fresh-sound}
+use Rattle.model.proofs.Listed.{Listed}
 use Rattle.model.proofs.Demand3.{good-act}
 use Rattle.model.proofs.Demand2.{bookOf, emptyBook}
 use Rattle.model.proofs.Outcomes.{read-back, call-cases, opened-fresh, sound-call, shape-call, sound-run}
@@ -262,3 +264,14 @@ module _ (w₀ : List ℕ) (t : Terms) (accepted : openCall w₀ t .number ≡ 0
       (stepBy (reached ds xs) (actsOf (lineOf x)) .answer .number ≡ 9) ↔ (since taken es 0 - since gone es 0 ≡ decode (reached ds xs) .shape .faultLimit)
   filing-line ds xs x field day code e v u one =
       let sh = shapeOf (reached ds xs) in rw e (at-a-line ds xs .room (tidy sh) (padded field) (length field) day code (tidy-long sh) v u one)
+
+  -- a line that is reached and done, which shows a card: what it gives and leaves lists the card's history; and one that withdraws a card
+  pub showing-line : (ds : List Deed) (xs : List (List ℕ)) (x field : List ℕ) → lineOf x ≡ Line.show field
+      → let r = stepBy (reached ds xs) (actsOf (lineOf x)) in
+      r .answer .number ≡ 0 → Listed (history (take (length field) (padded field)) (events w (callsTo ds xs)) []) enough (r .answer .faults) (r .room)
+  showing-line ds xs x field e = rw e (at-a-line ds xs .shown (tidy (shapeOf (reached ds xs))) (padded field) (length field) enough)
+
+  pub withdrawing-line : (ds : List Deed) (xs : List (List ℕ)) (x field : List ℕ) → lineOf x ≡ Line.withdraw field
+      → let r = stepBy (reached ds xs) (actsOf (lineOf x)) in
+      r .answer .number ≡ 0 → Listed (history (take (length field) (padded field)) (events w (callsTo ds xs)) []) enough (r .answer .faults) (r .room)
+  withdrawing-line ds xs x field e = rw e (at-a-line ds xs .withdrawn (tidy (shapeOf (reached ds xs))) (padded field) (length field) enough)

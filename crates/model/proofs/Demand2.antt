@@ -15,9 +15,10 @@ use Rattle.model.specs.Serial.{serialOk}
 use Rattle.model.specs.Shape.{Shape}
 use Rattle.model.specs.Model.{Fault, Card, Store, cards, histories, held, faultsHeld, newCard, newFault, withFault, historyIn, fresh, entered, filed, withdrawn}
 use Rattle.model.specs.Layout.{shapeOk}
-use Rattle.model.specs.Calls.{Step, pairs, enterStep, fileStep, showStep, withdrawStep}
-use Rattle.model.specs.Plain.{Slip, slip, Entry, entry, plain, lookUp, slipsIn, slipsOf, slipPairs, Book, Reply, withEntries, withSlip, bookEnter, bookFile, bookShow, bookWithdraw}
+use Rattle.model.specs.Calls.{Step, enterStep, fileStep, showStep, withdrawStep}
+use Rattle.model.specs.Plain.{Slip, slip, Entry, entry, plain, lookUp, slipsIn, slipsOf, Book, Reply, withEntries, withSlip, bookEnter, bookFile, bookShow, bookWithdraw}
 use Rattle.model.specs.Runs.{Act, Act.enter, Act.file, Act.show, Act.withdraw, perform, consult}
+use Rattle.model.proofs.Listed.{listed-slips}
 use Rattle.model.proofs.Lists.{keep-append, keep-map, keep-update, keep-remove, map-append}
 use Rattle.model.proofs.Sums.{total-append, total-map, total-keep, total-update, length-total}
 use Rattle.model.proofs.Fair.{one, filings, Fair, Good, faults-total}
@@ -32,10 +33,6 @@ use Rattle.model.proofs.Cases.{enter-cases, file-cases, show-cases, wit
 slips-histories : (l : List Card) → slipsOf (map entry l) ≡ map slip (histories l)
 slips-histories [] = refl
 slips-histories (c ∷ l) = rw (slips-histories l) (sym (map-append slip (c .faults) (histories l)))
-
-pairs-slips : (h : List Fault) → slipPairs (map slip h) ≡ pairs h
-pairs-slips [] = refl
-pairs-slips (f ∷ h) = rw (pairs-slips h)
 
 noted-entry : (f : Fault) (l : List Card) → map entry (map (withFault f) l) ≡ map (withSlip (slip f)) (map entry l)
 noted-entry f [] = refl
@@ -201,7 +198,7 @@ module _ (b : Book) (s : Store) (g : Good s) (a : Agrees b s) where
       (λ v l. rw (v, times y 0 (ap length l)) (record { number = refl; faults = refl; room = refl; agrees = a }))
       (λ v l f. rw (v, times y 1 l, history y, length-map (historyIn s y) slip, lt-ltb (length room) (2 * length (historyIn s y)) f)
       (record { number = refl; faults = refl; room = refl; agrees = a }))
-      (λ v l f. rw (v, times y 1 l, history y, length-map (historyIn s y) slip, le-ltb (length room) (2 * length (historyIn s y)) f, pairs-slips (historyIn s y))
+      (λ v l f. rw (v, times y 1 l, history y, length-map (historyIn s y) slip, le-ltb (length room) (2 * length (historyIn s y)) f, listed-slips (historyIn s y))
       (record { number = refl; faults = refl; room = refl; agrees = a }))
 
   withdraw-match : (bytes : List ℕ) (n : ℕ) (room : List ℕ) → Match (withdrawStep s bytes n room) (bookWithdraw b bytes n room)
@@ -213,7 +210,7 @@ module _ (b : Book) (s : Store) (g : Good s) (a : Agrees b s) where
       (λ v l. rw (v, times y 0 (ap length l)) (record { number = refl; faults = refl; room = refl; agrees = a }))
       (λ v l f. rw (v, times y 1 l, history y, length-map (historyIn s y) slip, lt-ltb (length room) (2 * length (historyIn s y)) f)
       (record { number = refl; faults = refl; room = refl; agrees = a }))
-      (λ v l f. rw (v, times y 1 l, history y, length-map (historyIn s y) slip, le-ltb (length room) (2 * length (historyIn s y)) f, pairs-slips (historyIn s y))
+      (λ v l f. rw (v, times y 1 l, history y, length-map (historyIn s y) slip, le-ltb (length room) (2 * length (historyIn s y)) f, listed-slips (historyIn s y))
       (record { number = refl; faults = refl; room = refl; agrees = withdraw-agrees y }))
 
   pub call-match : (c : Act) → Match (perform s c) (consult b c)

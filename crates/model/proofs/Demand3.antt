@@ -2,8 +2,8 @@
 -- Each serial's history is the one that the events tell of it, since an entry starts it empty, a filing adds its fault at the end, a
 -- withdrawal takes it away, and nothing else touches it; and the faults taken in are those held and those gone with their cards.
 -- An act carries it on (`kept-act`), and so do a refusal (`kept-refused`) and an opening (`kept-open`); so it holds along any run of
--- calls. From it: what each card held has for a history (`kept-card`), and that File answers 9 exactly when the faults taken in, less
--- those gone, are as many as the fault limit (`kept-room`).
+-- calls. From it: what each card held has for a history (`kept-card`), that File answers 9 exactly when the faults taken in, less
+-- those gone, are as many as the fault limit (`kept-room`), and that Show and Withdraw list that history (`kept-shown`, `kept-withdrawn`).
 use Prim.Native.Nat.{ℕ, _+_, _-_}
 use mathlib.Core.Path.{_≡_, refl, sym, ap, _∙_}
 use mathlib.Core.Logic.{_↔_}
@@ -18,10 +18,11 @@ use Rattle.model.specs.Serial.{validSerial, validFault}
 use Rattle.model.specs.Shape.{Shape}
 use Rattle.model.specs.Model.{Fault, Card, Store, cards, histories, faultsHeld, withFault, newFault, fresh, entered, filed, withdrawn, historyIn}
 use Rattle.model.specs.Layout.{shapeOk}
-use Rattle.model.specs.Calls.{Step}
+use Rattle.model.specs.Calls.{Step, written}
 use Rattle.model.specs.Plain.{Slip, slip}
 use Rattle.model.specs.Runs.{Act, Act.enter, Act.file, Act.show, Act.withdraw, perform, Event, Event.opened, Event.answered, told, history, taken, gone, since}
 use Rattle.model.proofs.Lists.{same-eq, same-sym, map-append}
+use Rattle.model.proofs.Listed.{Listed, written-listed}
 use Rattle.model.proofs.Fair.{filings, Good, faults-total}
 use Rattle.model.proofs.Look.{look, card-look}
 use Rattle.model.proofs.Steps.{filed-look, filed-total}
@@ -169,3 +170,19 @@ module _ {s : Store} {es : List Event} (k : Kept s es) where
       let r = file-numbers s (k .good) bytes n day code .full in
       let c = k .conserved in
       (λ e. omega (arith, r .0 e .3), λ e. r .1 (v, w, l, omega arith))
+
+  listed : (x room : List ℕ) → Listed (history x es []) room (length (historyIn s x)) (written (historyIn s x) room)
+  listed x room = rw (← (k .tells x)) (written-listed (historyIn s x) room)
+
+  -- a done Show, and a done Withdraw, list the history that the events tell
+  pub kept-shown : (bytes : List ℕ) (n : ℕ) (room : List ℕ) → perform s (show bytes n room) .answer .number ≡ 0
+      → Listed (history (take n bytes) es []) room (perform s (show bytes n room) .answer .faults) (perform s (show bytes n room) .room)
+  kept-shown bytes n room =
+      show-cases s (k .good) bytes n (λ r. r .answer .number ≡ 0 → Listed (history (take n bytes) es []) room (r .answer .faults) (r .room)) room
+      (λ v e. absurd (omega arith)) (λ v l e. absurd (omega arith)) (λ v l f e. absurd (omega arith)) (λ v l f e. listed (take n bytes) room)
+
+  pub kept-withdrawn : (bytes : List ℕ) (n : ℕ) (room : List ℕ) → perform s (withdraw bytes n room) .answer .number ≡ 0
+      → Listed (history (take n bytes) es []) room (perform s (withdraw bytes n room) .answer .faults) (perform s (withdraw bytes n room) .room)
+  kept-withdrawn bytes n room =
+      withdraw-cases s (k .good) bytes n (λ r. r .answer .number ≡ 0 → Listed (history (take n bytes) es []) room (r .answer .faults) (r .room)) room
+      (λ v e. absurd (omega arith)) (λ v l e. absurd (omega arith)) (λ v l f e. absurd (omega arith)) (λ v l f e. listed (take n bytes) room)

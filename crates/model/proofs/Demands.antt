@@ -3,7 +3,7 @@
 -- the words stand for; so what holds of one act holds of one call (`kept-call`, `book-call`), and a run of calls is a fold of that.
 -- `demand3`: the words stay sound, each held card's history is what calls and answers alone tell of its serial, faults accepted are
 -- those held and those gone, and 9 is answered exactly when the first less the last is the fault limit, which is the one that the last
--- accepted Open was asked for (`limit-of-the-last-open`). `demand2`: every call tells what
+-- accepted Open was asked for (`limit-of-the-last-open`); and Show and Withdraw list the faults of that history, each as often. `demand2`: every call tells what
 -- a plain list of cards would tell, and after every call the store holds under each serial what that list holds; `demand2-from`: the same from any
 -- sound store on, with its own cards as the list.
 use Prim.Native.Nat.{ℕ, _+_, _-_, _≤_}
@@ -21,13 +21,14 @@ use Rattle.model.specs.Shape.{Shape, need}
 use Rattle.model.specs.Layout.{shapeOk, shapeOf, lengthFor, encode, decodeAs, decode, sound}
 use Rattle.model.specs.Calls.{Terms, shapeFor, openCall}
 use Rattle.model.specs.Plain.{slip, Book, Reply, bookOpen}
-use Rattle.model.specs.Runs.{Act.file, perform, Call, Call.opening, Call.acting, outcome, wordsAfter, run, Event, Event.opened, Event.answered, eventsOf, events, history, taken, gone, since, Tell, tellOf, tells, bookCall, bookAfter, bookTells}
+use Rattle.model.specs.Runs.{Act.file, Act.show, Act.withdraw, perform, Call, Call.opening, Call.acting, outcome, wordsAfter, run, Event, Event.opened, Event.answered, eventsOf, events, history, taken, gone, since, Tell, tellOf, tells, bookCall, bookAfter, bookTells}
 use Rattle.model.proofs.Look.{look}
 use Rattle.model.proofs.Rep.{rep-encode}
 use Rattle.model.proofs.Decode.{shape-at}
 use Rattle.model.proofs.Sound.{sound-is, sound-good}
 use Rattle.model.proofs.Fresh.{fair-fresh, fresh-sound}
-use Rattle.model.proofs.Demand3.{good-act, Kept, kept-fresh, kept-open, kept-act, kept-refused, kept-card, kept-room}
+use Rattle.model.proofs.Listed.{Listed}
+use Rattle.model.proofs.Demand3.{good-act, Kept, kept-fresh, kept-open, kept-act, kept-refused, kept-card, kept-room, kept-shown, kept-withdrawn}
 use Rattle.model.proofs.Demand2.{Agrees, bookOf, plain-agrees, emptyBook, fresh-agrees, call-match}
 use Rattle.model.proofs.Outcomes.{read-back, open-cases, call-cases, opened-fresh, sound-call, shape-call, sound-run}
 
@@ -58,6 +59,11 @@ pub record Demand3 (w : List ℕ) (es : List Event) : Type 0 where
   pub room : (scratch bytes : List ℕ) (n day code : ℕ) → need (shapeOf w) ≤ length scratch → validSerial bytes n ≡ true → validFault day code ≡ true
       → length (look (decode w) (take n bytes)) ≡ 1
       → (outcome w scratch (file bytes n day code) .answer .number ≡ 9) ↔ (since taken es 0 - since gone es 0 ≡ decode w .shape .faultLimit)
+  -- what a done Show lists, and a done Withdraw: the faults of that history, each as often, by rising day and those of one day as filed
+  pub shown : (scratch bytes : List ℕ) (n : ℕ) (room : List ℕ) → let o = outcome w scratch (show bytes n room) in
+      o .answer .number ≡ 0 → Listed (history (take n bytes) es []) room (o .answer .faults) (o .room)
+  pub withdrawn : (scratch bytes : List ℕ) (n : ℕ) (room : List ℕ) → let o = outcome w scratch (withdraw bytes n room) in
+      o .answer .number ≡ 0 → Listed (history (take n bytes) es []) room (o .answer .faults) (o .room)
 
 pub kept-demand3 : (w : List ℕ) → sound w ≡ true → (es : List Event) → Kept (decode w) es → Demand3 w es
 kept-demand3 w ok es k =
@@ -68,6 +74,12 @@ kept-demand3 w ok es k =
       room = λ scratch bytes n day code enough v u l.
           call-cases w scratch (file bytes n day code) ok (λ r. (r .answer .number ≡ 9) ↔ (since taken es 0 - since gone es 0 ≡ decode w .shape .faultLimit))
           (λ h. absurd (omega arith)) (λ h. kept-room k bytes n day code v u l);
+      shown = λ scratch bytes n room.
+          call-cases w scratch (show bytes n room) ok (λ r. r .answer .number ≡ 0 → Listed (history (take n bytes) es []) room (r .answer .faults) (r .room))
+          (λ h e. absurd (omega arith)) (λ h. kept-shown k bytes n room);
+      withdrawn = λ scratch bytes n room.
+          call-cases w scratch (withdraw bytes n room) ok (λ r. r .answer .number ≡ 0 → Listed (history (take n bytes) es []) room (r .answer .faults) (r .room))
+          (λ h e. absurd (omega arith)) (λ h. kept-withdrawn k bytes n room);
     }
 
 pub demand3 : (w : List ℕ) (t : Terms) → openCall w t .number ≡ 0 → (cs : List Call)

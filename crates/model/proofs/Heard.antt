@@ -1,7 +1,7 @@
 -- Answer lines read back. An answer of a good store lists valid faults, and its number and its count are small (`line-says`); so its line is
 -- pieces of digits between spaces, the pairs with a colon in them, and reading gives the step's number, faults and room again (`reads-back`).
 -- No LF stands in it, so the lines of what a job wrote are its answer lines (`next-answer`): what is read off them is what the calls of
--- the job's lines answer, as events (`said-seen`) and as demand 2 compares them (`said-told`), and at each line in the middle (`seen-before`, `number-read`).
+-- the job's lines answer, as events (`said-seen`) and as demand 2 compares them (`said-told`), and at each line in the middle (`seen-before`, `number-read`, `pairs-read`).
 use Prim.Native.Nat.{ℕ, suc, _*_, _^_, _<_}
 use mathlib.Core.Path.{_≡_, refl, sym, ap, _∙_, subst}
 use mathlib.Core.List.{List, [], _∷_, _++_, map, append-nil, append-assoc}
@@ -9,7 +9,7 @@ use mathlib.Core.Bool.{true}
 use native.Mathlib.Omega.{arith}
 use lib.Dec.{eqb}
 use lib.ListN.{length, take, drop, getD}
-use lib.Seq.{length-take-le}
+use lib.Seq.{length-take-le, take-at}
 use Rattle.rules.specs.Code.{codeOf}
 use Rattle.rules.specs.Table.{addressOf}
 use Rattle.rules.proofs.Tests.{both}
@@ -18,7 +18,7 @@ use Rattle.model.specs.Serial.{serialOk, validFault, mostCode}
 use Rattle.model.specs.Shape.{Shape}
 use Rattle.model.specs.Model.{Fault, Card, Store, histories, addressIn, chainFor, is, historyIn}
 use Rattle.model.specs.Layout.{shapeOf, decode, sound, goodCard}
-use Rattle.model.specs.Calls.{Answer, Step, pairs, written}
+use Rattle.model.specs.Calls.{Answer, Step, pairs, listing, written}
 use Rattle.model.specs.Runs.{Call, Call.acting, wordsAfter, run, Event, Event.answered, eventsOf, events, Tell, tells}
 use Rattle.model.specs.Text.{fields, linesOf, decimal}
 use Rattle.model.specs.Job.{Line, bad, enter, show, withdraw, file, padded, lineOf, enough, stepOf, pairText, listed, answerText}
@@ -26,6 +26,8 @@ use Rattle.model.specs.Deeds.{actsOf, tidy, callsBy, callsOf, stepBy, sa
 use Rattle.model.specs.Heard.{numberIn, faultsIn, pairsBy, pairsIn, heard, Heard, heardIn, seenIn, toldIn}
 use Rattle.model.proofs.Jobs.{history-fits}
 use Rattle.model.proofs.Lists.{between-is, map-append, Every, every-append, every-keep}
+use Rattle.model.proofs.Listing.{listing-length, listing-every}
+use Rattle.model.proofs.Listed.{pairs-long}
 use Rattle.model.proofs.Walks.{all-every}
 use Rattle.model.proofs.Fair.{Good}
 use Rattle.model.proofs.Look.{look}
@@ -65,7 +67,7 @@ record Says (l : Line) (room : List ℕ) (r : Step) : Type 0 where
   pub told : List Fault
   pub valid : Every Valid told
   pub count : listed l (r .answer) ≡ length told
-  pub room-is : r .room ≡ written told room
+  pub room-is : r .room ≡ pairs told ++ drop (2 * length told) room
   pub number : r .answer .number < 10 ^ 20
   pub faults : r .answer .faults < 10 ^ 20
 
@@ -80,6 +82,13 @@ roomFor (file f day code) = []
 -- one that lists none and leaves the room
 silent : (l : Line) (room : List ℕ) (r : Step) → listed l (r .answer) ≡ 0 → r .room ≡ room → r .answer .number < 10 ^ 20 → r .answer .faults < 10 ^ 20 → Says l room r
 silent l room r c e n f = record { told = []; valid = tt; count = c; room-is = e; number = n; faults = f }
+
+-- one that lists a history
+listed-by-day : (l : Line) (room : List ℕ) (r : Step) (h : List Fault) → Every Valid h → listed l (r .answer) ≡ length h → r .room ≡ written h room
+    → r .answer .number < 10 ^ 20 → r .answer .faults < 10 ^ 20 → Says l room r
+listed-by-day l room r h v c e n f =
+    let long = listing-length (λ (g : Fault). g .day) h in
+    record { told = listing h; valid = listing-every (λ (g : Fault). g .day) Valid h v; count = c ∙ sym long; room-is = rw long e; number = n; faults = f }
 
 module _ (s : Store) (g : Good s) where
   line-says : (l : Line) → Says l (roomFor l) (stepOf s l)
@@ -104,7 +113,7 @@ module _ (s : Store) (g : Good s) where
       show-cases s g (padded f) (length f) (Says (show f) enough) enough
       (λ v. none _ refl refl (omega arith) (omega arith)) (λ v l. none _ refl refl (omega arith) (omega arith))
       (λ v l k. none _ refl refl (omega arith) (omega (arith, few)))
-      (λ v l k. record { told = historyIn s y; valid = history-valid s g y; count = refl; room-is = refl; number = omega arith; faults = omega (arith, few) })
+      (λ v l k. listed-by-day (show f) enough _ (historyIn s y) (history-valid s g y) refl refl (omega arith) (omega (arith, few)))
   line-says (withdraw f) =
       let none = silent (withdraw f) enough in
       let y = take (length f) (padded f) in
@@ -112,7 +121,7 @@ module _ (s : Store) (g : Good s) where
       withdraw-cases s g (padded f) (length f) (Says (withdraw f) enough) enough
       (λ v. none _ refl refl (omega arith) (omega arith)) (λ v l. none _ refl refl (omega arith) (omega arith))
       (λ v l k. none _ refl refl (omega arith) (omega (arith, few)))
-      (λ v l k. record { told = historyIn s y; valid = history-valid s g y; count = refl; room-is = refl; number = omega arith; faults = omega (arith, few) })
+      (λ v l k. listed-by-day (withdraw f) enough _ (historyIn s y) (history-valid s g y) refl refl (omega arith) (omega (arith, few)))
 
 -- the text of an answer in pieces between spaces
 
@@ -127,10 +136,6 @@ unfolding pairText
 pairs-glued p [] rest = append-nil p
 pairs-glued p (f ∷ h) rest =
     rw (← (pairs-glued (pairPiece f) h rest), append-assoc (decimal (f .day)) (58 ∷ decimal (f .code)) (pairText (length h) (pairs h ++ rest)))
-
-pairs-long : (h : List Fault) → length (pairs h) ≡ 2 * length h
-pairs-long [] = refl
-pairs-long (f ∷ h) = omega (arith, pairs-long h)
 
 -- no byte but digits, spaces and colons
 
@@ -173,6 +178,7 @@ record ReadsBack (l : Line) (room : List ℕ) (r : Step) : Type 0 where
   pub number-is : numberIn line ≡ r .answer .number
   pub faults-are : faultsIn line ≡ r .answer .faults
   pub room-is : pairsIn line ++ drop (length (pairsIn line)) room ≡ r .room
+  pub pairs-are : pairsIn line ≡ take (2 * listed l (r .answer)) (r .room)
 
 reads-back : (l : Line) (room : List ℕ) (r : Step) → Says l room r → ReadsBack l room r
 unfolding answerText numberIn faultsIn pairsIn
@@ -187,6 +193,9 @@ reads-back l room r q =
       number-is = rw e (decimal-back (a .number) (q .number));
       faults-are = rw e (decimal-back (a .faults) (q .faults));
       room-is = rw (e, pairs-back (q .told) (q .valid), pairs-long (q .told)) (sym (q .room-is));
+      pairs-are =
+          rw (e, pairs-back (q .told) (q .valid), q .count, q .room-is)
+          (sym (take-at (pairs (q .told)) (drop (2 * length (q .told)) room) (2 * length (q .told)) (pairs-long (q .told))));
     }
 
 -- lines one behind the other
@@ -275,13 +284,21 @@ module _ (w : List ℕ) (ok : sound w ≡ true) (xs : List (List ℕ)) (k : ℕ)
   pub seen-before : seenIn (take k xs) (linesOf (said w xs)) ≡ events w (callsOf (shapeOf w) (take k xs))
   seen-before = rw (said-at w ok xs k h) (said-seen w ok (take k xs) _)
 
-  pub number-read : numberIn (getD (linesOf (said w xs)) k []) ≡ stepBy to (actsOf (lineOf (getD xs k []))) .answer .number
-  number-read =
+  at-line : getD (linesOf (said w xs)) k [] ≡ line-read to (sound-run w ok (callsOf (shapeOf w) (take k xs))) (getD xs k []) .line
+  at-line =
       let x = getD xs k [] in
       let v = sound-run w ok (callsOf (shapeOf w) (take k xs)) in
       let more = said (run w (callsOf (shapeOf w) (take (suc k) xs))) (drop (suc k) xs) in
       let e : length (take k xs) ≡ k = length-take-le k xs (omega arith) in
-      ap (λ (t : List ℕ). numberIn (getD (linesOf t) k [])) (said-at w ok xs k h)
-      ∙ ap numberIn (subst (λ (n : ℕ). getD (linesOf (said w (take k xs) ++ (saidBy to x ++ more))) n [] ≡ getD (linesOf (saidBy to x ++ more)) 0 []) e (said-behind w ok (take k xs) (saidBy to x ++ more)))
-      ∙ ap (λ (ls : List (List ℕ)). numberIn (getD ls 0 [])) (next-answer to v x more)
-      ∙ line-read to v x .number-is
+      ap (λ (t : List ℕ). getD (linesOf t) k []) (said-at w ok xs k h)
+      ∙ subst (λ (n : ℕ). getD (linesOf (said w (take k xs) ++ (saidBy to x ++ more))) n [] ≡ getD (linesOf (saidBy to x ++ more)) 0 []) e (said-behind w ok (take k xs) (saidBy to x ++ more))
+      ∙ ap (λ (ls : List (List ℕ)). getD ls 0 []) (next-answer to v x more)
+
+  pub number-read : numberIn (getD (linesOf (said w xs)) k []) ≡ stepBy to (actsOf (lineOf (getD xs k []))) .answer .number
+  number-read = ap numberIn at-line ∙ line-read to (sound-run w ok (callsOf (shapeOf w) (take k xs))) (getD xs k []) .number-is
+
+  -- the pairs in its answer line are those at the front of the room that it leaves
+  pub pairs-read : let l = lineOf (getD xs k []) in
+      let r = stepBy to (actsOf l) in
+      pairsIn (getD (linesOf (said w xs)) k []) ≡ take (2 * listed l (r .answer)) (r .room)
+  pairs-read = ap pairsIn at-line ∙ line-read to (sound-run w ok (callsOf (shapeOf w) (take k xs))) (getD xs k []) .pairs-are

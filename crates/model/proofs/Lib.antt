@@ -2,6 +2,7 @@
 pub mod Lists
 pub mod Tables
 pub mod Sums
+pub mod Listing
 pub mod Each
 pub mod Places
 pub mod Chains
@@ -30,6 +31,7 @@ pub mod Cut
 -- The four calls by their numbers, and the demands: of the store as lists, then of its words
 pub mod Cases
 pub mod Numbers
+pub mod Listed
 pub mod Demand3
 pub mod Demand2
 pub mod Outcomes

@@ -4,6 +4,7 @@ use mathlib.Core.List.{List, [], _∷_, _++_}
 use mathlib.Core.Bool.{not, cond}
 use lib.Dec.{ltb, eqb}
 use lib.ListN.{length, take, drop, replicate}
+use Rattle.model.specs.Lists.{byDay}
 use Rattle.model.specs.Shape.{Shape, need}
 use Rattle.model.specs.Serial.{validSerial, validFault}
 use Rattle.model.specs.Model.{Fault, Store, held, faultsHeld, chainFor, found, comparisons, placed, removed, splitScan, contractScan, fresh, entered, filed, historyIn, withdrawn}
@@ -35,14 +36,18 @@ refused n = gives n 0 0 0
 unfoldable pub cleaned : ℕ → List ℕ → List ℕ
 cleaned n scratch = replicate n 0 ++ drop n scratch
 
--- day, code per fault in filing order
+-- day, code per fault
 abbrev pub pairs : List Fault → List ℕ
 pairs [] = []
 pairs (f ∷ fs) = f .day ∷ f .code ∷ pairs fs
 
--- the pairs, and no later word touched
+-- what Show and Withdraw list: the faults by rising day, equal days as filed
+abbrev pub listing : List Fault → List Fault
+listing h = byDay (λ f. f .day) h
+
+-- the pairs of what is listed, and no later word touched
 abbrev pub written : List Fault → List ℕ → List ℕ
-written h room = pairs h ++ drop (2 * length h) room
+written h room = pairs (listing h) ++ drop (2 * length h) room
 
 -- what a call does once the store is known to be sound: an answer, the store left, the room left
 pub record Step : Type 0 where

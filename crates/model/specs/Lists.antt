@@ -2,7 +2,7 @@
 use Prim.Native.Nat.{ℕ, zero, suc, _+_}
 use mathlib.Core.List.{List, [], _∷_, _++_}
 use mathlib.Core.Bool.{Bool, true, false, not, _&&_, cond}
-use lib.Dec.{leb, eqb}
+use lib.Dec.{leb, ltb, eqb}
 
 unfoldable pub between : ℕ → ℕ → ℕ → Bool
 between lo hi x = leb lo x && leb x hi
@@ -40,3 +40,21 @@ distinct eq (x ∷ xs) = all (λ y. not (eq x y)) xs && distinct eq xs
 abbrev pub total {ℓ} : {A : Type ℓ} → (A → ℕ) → List A → ℕ
 total w [] = 0
 total w (x ∷ xs) = w x + total w xs
+
+-- one element is of an earlier day than another
+unfoldable pub earlier {ℓ} : {A : Type ℓ} → (A → ℕ) → A → A → Bool
+earlier day x y = ltb (day x) (day y)
+
+-- an element before the first one of a later day, or behind all where none is later
+abbrev pub put {ℓ} : {A : Type ℓ} → (A → ℕ) → A → List A → List A
+put day x [] = x ∷ []
+put day x (y ∷ ys) = let rest = put day x ys in cond (earlier day x y) (x ∷ y ∷ ys) (y ∷ rest)
+
+-- elements put among others one by one, first to last
+abbrev pub putAll {ℓ} : {A : Type ℓ} → (A → ℕ) → List A → List A → List A
+putAll day [] ys = ys
+putAll day (x ∷ xs) ys = putAll day xs (put day x ys)
+
+-- by rising day, equal days in the order that they had
+unfoldable pub byDay {ℓ} : {A : Type ℓ} → (A → ℕ) → List A → List A
+byDay day xs = putAll day xs []

@@ -4,7 +4,7 @@ use mathlib.Core.List.{List, [], _∷_, _++_, map}
 use mathlib.Core.Bool.{not, cond}
 use lib.Dec.{ltb, eqb}
 use lib.ListN.{length, take, drop}
-use Rattle.model.specs.Lists.{same, keep, total}
+use Rattle.model.specs.Lists.{same, keep, total, byDay}
 use Rattle.model.specs.Serial.{validSerial, validFault}
 use Rattle.model.specs.Model.{Fault, Card, Store, cards}
 use Rattle.model.specs.Shape.{Shape}
@@ -44,6 +44,13 @@ slipsOf (e ∷ es) = e .slips ++ slipsOf es
 abbrev pub slipPairs : List Slip → List ℕ
 slipPairs [] = []
 slipPairs (f ∷ fs) = f .day ∷ f .code ∷ slipPairs fs
+
+-- listed by rising day, equal days as filed, at the front of a room
+abbrev pub slipListing : List Slip → List Slip
+slipListing fs = byDay (λ f. f .day) fs
+
+abbrev pub slipsWritten : List Slip → List ℕ → List ℕ
+slipsWritten fs room = slipPairs (slipListing fs) ++ drop (2 * length fs) room
 
 -- the plain model: a list of entries with a shape, and the four operations on it
 pub record Book : Type 0 where
@@ -97,7 +104,7 @@ bookShow b bytes n room =
     cond (not (validSerial bytes n)) (says 4 0 b room)
     (cond (eqb (length (lookUp y (b .entries))) 0) (says 7 0 b room)
     (cond (ltb (length room) (2 * length h)) (says 10 (length h) b room)
-    (says 0 (length h) b (slipPairs h ++ drop (2 * length h) room))))
+    (says 0 (length h) b (slipsWritten h room))))
 
 unfoldable pub bookWithdraw : Book → List ℕ → ℕ → List ℕ → Reply
 bookWithdraw b bytes n room =
@@ -106,4 +113,4 @@ bookWithdraw b bytes n room =
     cond (not (validSerial bytes n)) (says 4 0 b room)
     (cond (eqb (length (lookUp y (b .entries))) 0) (says 7 0 b room)
     (cond (ltb (length room) (2 * length h)) (says 10 (length h) b room)
-    (says 0 (length h) (withEntries b (keep (λ e. not (same y (e .serial))) (b .entries))) (slipPairs h ++ drop (2 * length h) room))))
+    (says 0 (length h) (withEntries b (keep (λ e. not (same y (e .serial))) (b .entries))) (slipsWritten h room))))

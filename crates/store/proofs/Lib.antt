@@ -28,7 +28,8 @@ pub mod ClearLaws
 pub mod SearchLaws
 pub mod StoredLaws
 pub mod FindLaws
--- Pairs written along a history
+-- One more fault put into a room of pairs, and pairs put there along a history
+pub mod ListingLaws
 pub mod ShowLaws
 -- What the contracts admit, and what they do not
 pub mod OneOutcome

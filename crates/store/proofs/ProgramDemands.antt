@@ -1,6 +1,7 @@
 -- Demands 2 and 3 of the program itself, over every sequence of its calls after an accepted Open. A call that meets its contract gives and
 -- leaves what the model says, by equations; so a sequence of calls that meet theirs is the model's sequence (`same-words`, `same-events`,
--- `same-tells`), and the model's theorems hold of it. `program-room` is the last sentence of demand 3, of a filing that the program answered.
+-- `same-tells`), and the model's theorems hold of it. `program-room` is the last sentence of demand 3, of a filing that the program answered;
+-- `program-shown` and `program-withdrawn` are what demand 3 says of listings, of a Show and a Withdraw that the program answered.
 use mathlib.Core.Path.{_≡_, refl, sym, ap, _∙_}
 use mathlib.Core.Logic.{_↔_}
 use mathlib.Core.Bool.{true, cond}
@@ -13,9 +14,10 @@ use Rattle.model.specs.Shape.{need}
 use Rattle.model.specs.Layout.{shapeOf, decode, sound}
 use Rattle.model.specs.Calls.{Terms, shapeFor, openCall}
 use Rattle.model.specs.Plain.{Book}
-use Rattle.model.specs.Runs.{Act, taken, gone, since, Call, Call.opening, Call.acting, wordsAfter, run, Event.opened, eventsOf, events, tellOf, tells, bookAfter, bookTells}
+use Rattle.model.specs.Runs.{Act, taken, gone, since, Call, Call.opening, Call.acting, wordsAfter, run, Event, Event.opened, eventsOf, events, history, tellOf, tells, bookAfter, bookTells}
 use Rattle.model.proofs.Demand2.{Agrees, bookOf, emptyBook}
 use Rattle.model.proofs.Look.{look}
+use Rattle.model.proofs.Listed.{Listed}
 use Rattle.model.proofs.Demands.{termsAfter, lastTerms, limit-of-the-last-open, Demand3, Demand2, demand3, demand2, demand2-from}
 use Rattle.store.specs.Leaves.{Opens}
 use Rattle.store.specs.Sequences.{Given, Made, Meets, AllMeet, endWords, seen, seenOf, termsBy, lastAsked, toldOf}
@@ -69,6 +71,26 @@ pub program-demand3 : (w₀ w : List ℕ) (t : Terms) → Opens (openCall w₀ t
 program-demand3 w₀ w t o ms a =
     let e = opened-words w₀ w t o in
     rw (same-words w ms a, same-events w ms a, e .1) (demand3 w₀ t (e .0) (callsOf ms))
+
+-- a Show, and a Withdraw, that the program answered by 0 where the words keep demand 3: what it gave and left lists the history of the serial
+pub shown-listed : (w : List ℕ) (es : List Event) → Demand3 w es → (scratch bytes room : List ℕ) (n : ℕ) (g : Given) → Meets w (acting scratch (Act.show bytes n room)) g
+    → g .answer .number ≡ 0 → Listed (history (take n bytes) es []) room (g .answer .faults) (g .room)
+shown-listed w es d scratch bytes room n g e z = rw (e .answer .faults-are, e .room-is) (d .shown scratch bytes n room (sym (e .answer .number-is) ∙ z))
+
+pub withdrawn-listed : (w : List ℕ) (es : List Event) → Demand3 w es → (scratch bytes room : List ℕ) (n : ℕ) (g : Given) → Meets w (acting scratch (Act.withdraw bytes n room)) g
+    → g .answer .number ≡ 0 → Listed (history (take n bytes) es []) room (g .answer .faults) (g .room)
+withdrawn-listed w es d scratch bytes room n g e z = rw (e .answer .faults-are, e .room-is) (d .withdrawn scratch bytes n room (sym (e .answer .number-is) ∙ z))
+
+-- so after every sequence of calls: each fault that was accepted for the serial since its card was last entered, as often, by rising day
+pub program-shown : (w₀ w : List ℕ) (t : Terms) → Opens (openCall w₀ t) 0 w → (ms : List Made) → AllMeet w ms
+    → (scratch bytes room : List ℕ) (n : ℕ) (g : Given) → Meets (endWords w ms) (acting scratch (Act.show bytes n room)) g
+    → g .answer .number ≡ 0 → Listed (history (take n bytes) (seenOf ms) []) room (g .answer .faults) (g .room)
+program-shown w₀ w t o ms a = shown-listed (endWords w ms) (seenOf ms) (program-demand3 w₀ w t o ms a)
+
+pub program-withdrawn : (w₀ w : List ℕ) (t : Terms) → Opens (openCall w₀ t) 0 w → (ms : List Made) → AllMeet w ms
+    → (scratch bytes room : List ℕ) (n : ℕ) (g : Given) → Meets (endWords w ms) (acting scratch (Act.withdraw bytes n room)) g
+    → g .answer .number ≡ 0 → Listed (history (take n bytes) (seenOf ms) []) room (g .answer .faults) (g .room)
+program-withdrawn w₀ w t o ms a = withdrawn-listed (endWords w ms) (seenOf ms) (program-demand3 w₀ w t o ms a)
 
 same-terms : (w : List ℕ) (t : Terms) (ms : List Made) → AllMeet w ms → lastAsked t ms ≡ lastTerms w t (callsOf ms)
 same-terms w t [] a = refl

@@ -11,3 +11,4 @@ pub mod Writes
 pub mod Fresh
 pub mod Table
 pub mod Order
+pub mod Listing

@@ -145,7 +145,7 @@ pub fn file(
     files::file_in(words, serial, len, day, code)
 }
 
-// Writes the history of the card with this serial into the room, day and code per fault; the words stay.
+// Lists the faults of the card with this serial in the room, day and code of each, by rising day and those of one day as filed; the words stay.
 pub fn show(
     words: &[u32],
     scratch: &mut [u8],
@@ -162,7 +162,7 @@ pub fn show(
     shows::show_in(words, serial, len, room)
 }
 
-// Writes the history of the card with this serial into the room, as Show does, and removes the card.
+// Lists the faults of the card with this serial in the room, as Show does, and removes the card.
 pub fn withdraw(
     words: &mut [u32],
     scratch: &mut [u8],

@@ -8,13 +8,14 @@ const SEED: u64 = 1_980;
 /// What jobs of a kind are called, how many there are, and how one is made.
 type Kind = (&'static str, usize, fn(&mut Random, usize) -> Vec<u8>);
 
-const KINDS: [Kind; 15] = [
-    ("valid", 40, valid),
+const KINDS: [Kind; 16] = [
+    ("valid", 30, valid),
+    ("late", 20, late),
     ("growth", 30, growth),
     ("churn", 20, churn),
     ("faults", 10, faults),
-    ("malformed", 40, malformed),
-    ("noise", 30, noise),
+    ("malformed", 35, malformed),
+    ("noise", 25, noise),
     ("returns", 10, returns),
     ("lines", 12, lines),
     ("digits", 20, digits),
@@ -58,6 +59,14 @@ fn joined(lines: impl IntoIterator<Item = impl AsRef<[u8]>>) -> Vec<u8> {
     text
 }
 
+/// Any day, or one of five, so that a card has slips of one day, and slips that come late.
+fn day(random: &mut Random) -> usize {
+    match random.below(2) {
+        0 => 1 + random.below(65_535),
+        _ => 20_001 + random.below(5),
+    }
+}
+
 /// A well-formed line on one of so many serials. Some serials differ only in leading zeros.
 fn command(random: &mut Random, serials: usize) -> String {
     let number = random.below(serials);
@@ -69,7 +78,7 @@ fn command(random: &mut Random, serials: usize) -> String {
     };
     match random.below(10) {
         0..=3 => format!("E {serial}"),
-        4..=6 => format!("F {serial} {} {}", 1 + random.below(65_535), 1 + random.below(9_999)),
+        4..=6 => format!("F {serial} {} {}", day(random), 1 + random.below(9_999)),
         7 | 8 => format!("S {serial}"),
         _ => format!("W {serial}"),
     }
@@ -79,6 +88,22 @@ fn valid(random: &mut Random, number: usize) -> Vec<u8> {
     let serials = [2, 5, 20, 100][number % 4];
     let count = 20 + random.below(400);
     joined((0..count).map(|_| command(random, serials)))
+}
+
+/// Slips on one to four cards, many of one day and many late, which are shown, and withdrawn and entered again, on the way.
+fn late(random: &mut Random, number: usize) -> Vec<u8> {
+    let cards = 1 + number % 4;
+    let enters = (0..cards).map(|card| format!("E {card}")).collect::<Vec<_>>();
+    let count = 200 + random.below(200);
+    let rest = (0..count).map(|_| {
+        let card = random.below(cards);
+        match random.below(16) {
+            0..=10 => format!("F {card} {} {}", day(random), 1 + random.below(9_999)),
+            11..=14 => format!("S {card}"),
+            _ => format!("W {card}\nE {card}"),
+        }
+    });
+    joined(enters.into_iter().chain(rest))
 }
 
 fn shuffled<T>(random: &mut Random, mut things: Vec<T>) -> Vec<T> {
@@ -115,11 +140,12 @@ fn churn(random: &mut Random, number: usize) -> Vec<u8> {
     }))
 }
 
-/// More faults than the store takes, on few cards, and then some again after a withdrawal.
+/// More faults than the store takes, of nine days in no order, on few cards, and then some again after a withdrawal.
 fn faults(random: &mut Random, number: usize) -> Vec<u8> {
     let cards = 1 + number;
     let enters = (0..cards).map(|card| format!("E {card}")).collect::<Vec<_>>();
-    let filings = (0..520).map(|_| format!("F {} 1 {}", random.below(cards), 1 + random.below(9))).collect::<Vec<_>>();
+    let filing = |_| format!("F {} {} {}", random.below(cards), 1 + random.below(9), 1 + random.below(9));
+    let filings = (0..520).map(filing).collect::<Vec<_>>();
     let after = ["W 0", "F 1 2 2", "E 0", "F 0 3 3", "S 0"].map(String::from);
     joined(enters.into_iter().chain(filings).chain(after))
 }
@@ -251,10 +277,18 @@ fn brim(random: &mut Random, number: usize) -> Vec<u8> {
     joined(answered.into_iter().chain(last.into_iter().filter(|_| number < 24)))
 }
 
-/// Long histories, shown until the output is full.
+/// Long histories, shown until the output is full. From job to job their days rise, fall, change between two, and have no order.
 fn histories(random: &mut Random, number: usize) -> Vec<u8> {
     let count = 50 + 20 * number;
-    let filings = (0..count).map(|_| format!("F 7 {} {}", 1 + random.below(65_535), 1 + random.below(9_999)));
+    let filings = (0..count).map(|filed| {
+        let day = match number % 4 {
+            0 => 1 + 100 * filed,
+            1 => 65_535 - 100 * filed,
+            2 => 365 - filed % 2,
+            _ => day(random),
+        };
+        format!("F 7 {day} {}", 1 + random.below(9_999))
+    });
     let shows = (0..60).map(|turn| if turn % 9 == 8 { "W 7" } else { "S 7" }.to_string());
     joined(["E 7".to_string(), "E 8".to_string()].into_iter().chain(filings.collect::<Vec<_>>()).chain(shows))
 }

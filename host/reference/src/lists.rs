@@ -44,6 +44,16 @@ pub struct Card {
     pub faults: Vec<Fault>,
 }
 
+impl Card {
+    /// What is listed of the card: its faults by rising day, those of one day as filed. The card keeps them in filing order.
+    pub fn listing(&self) -> Vec<Entry> {
+        let mut listing: Vec<Entry> = self.faults.iter().map(|fault| fault.entry).collect();
+        // This sort leaves equal days in their order; the code plays no part.
+        listing.sort_by_key(|entry| entry.day);
+        listing
+    }
+}
+
 /// Buckets are lists of cards in the order of their chains; free cells stand in the order in which they will be taken.
 #[derive(Clone, Debug, PartialEq, Eq)]
 pub struct Store {

@@ -20,7 +20,7 @@ pub struct Answer {
     pub faults: u32,
 }
 
-/// An answer, and the faults that a done Show or Withdraw lists.
+/// An answer, and the faults that a done Show or Withdraw lists, by rising day.
 #[derive(Clone, Debug, PartialEq, Eq)]
 pub struct Outcome {
     pub answer: Answer,
@@ -88,7 +88,7 @@ fn file(store: &mut Store, serial: &Serial, entry: Entry) -> Answered {
 
 fn show(store: &Store, serial: &Serial, room: usize) -> Answered {
     let (search, place) = find(store, serial)?;
-    let listed: Vec<Entry> = store.buckets[search.bucket][place].faults.iter().map(|fault| fault.entry).collect();
+    let listed = store.buckets[search.bucket][place].listing();
     let count = listed.len();
     refuse_if(room < 2 * count, answered(search, 10, 0, count))?;
     Ok(Outcome { listed, ..answered(search, 0, 0, count) })

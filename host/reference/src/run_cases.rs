@@ -285,11 +285,12 @@ fn orders(script: &mut Script) {
     script.line("# refusals that apply together: 11, 14, 3, 10");
     script.lines("N; O 1 1; E 7; F 7 8 9; O 2 1");
     let need = script.need();
+    let (fits, too_short) = ([need], [need - 1, 0]);
     for applies in 0..16 {
         let scratch = if applies & 8 == 0 { 384 } else { 383 };
         let counts: &[usize] = if applies & 4 == 0 { &[2] } else { &[0, 9] };
         let format = if applies & 2 == 0 { 1 } else { 2 };
-        let sizes: &[usize] = if applies & 1 == 0 { &[need] } else { &[need - 1, 0] };
+        let sizes: &[usize] = if applies & 1 == 0 { &fits } else { &too_short };
         script.line(&format!("B {scratch}"));
         script.put(0, format);
         for count in counts {

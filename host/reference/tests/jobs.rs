@@ -1,6 +1,6 @@
 //! The jobs that `depot` is compared on reach what they are for.
 use reference::jobs::{self, Job};
-use std::collections::HashSet;
+use std::collections::{HashMap, HashSet};
 
 fn answers(job: &Job) -> Vec<Vec<u32>> {
     let text = String::from_utf8(job.output.clone()).unwrap();
@@ -71,4 +71,61 @@ fn the_output_runs_full() {
         let stopped = |job: &Job| job.output.ends_with(b"\n10 0 0 0\n") && job.output.len() - 9 + left == 16_384;
         assert!(jobs.iter().any(stopped), "{left} bytes left");
     }
+}
+
+/// What a done Show or Withdraw listed, and the same faults as they were filed.
+struct Listing {
+    filed: Vec<String>,
+    listed: Vec<String>,
+}
+
+/// The listings of a job, with what was filed read off its lines and its answers.
+fn listings(job: &Job) -> Vec<Listing> {
+    let output = String::from_utf8(job.output.clone()).unwrap();
+    let mut cards: HashMap<Vec<u8>, Vec<String>> = HashMap::new();
+    let mut listings = Vec::new();
+    for (line, answer) in lines(job).zip(output.lines()).filter(|(_, answer)| answer.starts_with("0 ")) {
+        let fields: Vec<&[u8]> = line.split(|&byte| byte == b' ').collect();
+        let filed = cards.entry(fields[1].to_vec()).or_default();
+        match fields[..] {
+            [b"F", _, day, code] => {
+                let value = |field| String::from_utf8_lossy(field).parse::<u32>().unwrap();
+                filed.push(format!("{}:{}", value(day), value(code)));
+            }
+            [b"S" | b"W", _] => {
+                let listed = answer.split(' ').skip(4).map(String::from).collect();
+                listings.push(Listing { filed: filed.clone(), listed });
+            }
+            _ => (),
+        }
+        if fields[0] == b"W" {
+            filed.clear();
+        }
+    }
+    listings
+}
+
+/// The days of what was listed or filed.
+fn days(faults: &[String]) -> Vec<u32> {
+    faults.iter().map(|fault| fault.split(':').next().unwrap().parse().unwrap()).collect()
+}
+
+/// Many listings are in another order than the faults were filed in, and many of these have days more than once. All have the faults
+/// that were filed, each as often, by rising day.
+#[test]
+fn slips_come_late() {
+    let all: Vec<Listing> = jobs::all().iter().flat_map(listings).collect();
+    for Listing { filed, listed } in &all {
+        assert!(days(listed).windows(2).all(|pair| pair[0] <= pair[1]), "{listed:?}");
+        let sorted = |faults: &[String]| {
+            let mut faults = faults.to_vec();
+            faults.sort_unstable();
+            faults
+        };
+        assert_eq!(sorted(filed), sorted(listed));
+    }
+    let late: Vec<&Listing> = all.iter().filter(|listing| listing.filed != listing.listed).collect();
+    let with_equal_days = late.iter().filter(|listing| days(&listing.listed).windows(2).any(|pair| pair[0] == pair[1]));
+    assert!(late.len() > 1_000, "{} listings with late slips", late.len());
+    assert!(with_equal_days.clone().count() > 500, "{} of them with equal days", with_equal_days.count());
 }

@@ -8,6 +8,7 @@ use reference::lists::{Card, Store};
 use reference::random::Random;
 use reference::rules;
 use std::cmp::Ordering;
+use std::collections::BTreeSet;
 
 /// A card of the plain list: its serial and its faults in filing order.
 type Plain = (String, Vec<[u32; 2]>);
@@ -23,6 +24,12 @@ enum Call {
 
 /// What the plain list tells of an answer: the number, and the faults it lists.
 type Told = (u32, Vec<[u32; 2]>);
+
+/// Faults as they are listed: day by day from the lowest, and of each day those that were filed, in filing order.
+fn day_by_day(faults: &[[u32; 2]]) -> Vec<[u32; 2]> {
+    let days: BTreeSet<u32> = faults.iter().map(|fault| fault[0]).collect();
+    days.into_iter().flat_map(|day| faults.iter().copied().filter(move |fault| fault[0] == day)).collect()
+}
 
 struct Book {
     cards: Vec<Plain>,
@@ -84,7 +91,7 @@ impl Book {
     }
 
     fn show(&mut self, serial: &str) -> Told {
-        self.find(serial).map_or((7, vec![]), |card| (0, card.1.clone()))
+        self.find(serial).map_or((7, vec![]), |card| (0, day_by_day(&card.1)))
     }
 
     fn withdraw(&mut self, serial: &str) -> Told {
@@ -122,12 +129,21 @@ fn job_line(call: &Call) -> String {
     }
 }
 
+/// A day of any number, or one of a week, so that faults of one day meet on a card and others come late.
+fn random_day(random: &mut Random) -> u32 {
+    if random.below(2) == 0 {
+        random.word() % 70_000
+    } else {
+        1 + random.word() % 7
+    }
+}
+
 /// A call on one of `serials` serials, many of which differ only in leading zeros. `leaning` turns it to entries or to withdrawals.
 fn random_call(random: &mut Random, serials: usize, leaning: usize) -> Call {
     let number = random.below(serials);
     let serial = format!("{:0width$}", number / 3, width = 1 + number % 3 * 2);
     match random.below(10) {
-        0..=2 => Call::File(serial, random.word() % 70_000, random.word() % 10_500),
+        0..=2 => Call::File(serial, random_day(random), random.word() % 10_500),
         3 => Call::Show(serial),
         kind if kind < 4 + leaning => Call::Enter(serial),
         _ => Call::Withdraw(serial),
@@ -176,19 +192,28 @@ fn histories(store: &Store) -> Vec<Plain> {
     all
 }
 
-/// Runs random calls on a fresh store, and holds each to the book and to the chains. Gives the splits and contractions met.
-fn hold_to_the_book(cards: u32, faults: u32, serials: usize, count: usize, seed: u64) -> (usize, usize) {
+/// What random calls have met: splits, contractions, and listings in another order than the faults were filed in.
+#[derive(Default)]
+struct Met {
+    splits: usize,
+    contractions: usize,
+    reordered: usize,
+}
+
+/// Runs random calls on a fresh store, and holds each to the book and to the chains.
+fn hold_to_the_book(cards: u32, faults: u32, serials: usize, count: usize, seed: u64) -> Met {
     let mut random = Random::new(seed);
     let mut reader = Reader::open(cards, faults);
     let mut book = Book::new(cards, faults);
-    let (mut splits, mut contractions) = (0, 0);
+    let mut met = Met::default();
     for call in random_calls(&mut random, serials, count) {
         let (words, before) = (reader.words.clone(), reader.lists());
+        let serial = serial_of(&call);
+        let filed = book.find(serial).map_or(vec![], |card| card.1.clone());
         let answer = answer(&mut reader, &call);
         let (number, listed) = book.tell(&call);
         let after = reader.lists();
 
-        let serial = serial_of(&call);
         let compared = if number == 5 { 0 } else { comparisons(&before, serial) };
         let counted = if number == 0 { book.count(&call, &listed) } else { 0 };
         let expected = [number as usize, compared, scanned(&before, &after, serial), counted];
@@ -198,25 +223,45 @@ fn hold_to_the_book(cards: u32, faults: u32, serials: usize, count: usize, seed:
         assert_eq!(histories(&after), book.sorted(), "{call:?}");
         assert_eq!(book.accepted - book.gone, after.faults_held(), "{call:?}");
 
-        splits += usize::from(after.buckets.len() > before.buckets.len());
-        contractions += usize::from(after.buckets.len() < before.buckets.len());
+        met.splits += usize::from(after.buckets.len() > before.buckets.len());
+        met.contractions += usize::from(after.buckets.len() < before.buckets.len());
+        met.reordered += usize::from(!listed.is_empty() && listed != filed);
     }
-    (splits, contractions)
+    met
 }
 
 #[test]
 fn small_stores() {
-    for seed in 1..=20 {
-        hold_to_the_book(1 + seed as u32 % 5, 1 + seed as u32 % 7, 8, 400, seed);
+    let runs = (1..=20).map(|seed| hold_to_the_book(1 + seed as u32 % 5, 1 + seed as u32 % 7, 8, 400, seed));
+    let reordered: usize = runs.map(|met| met.reordered).sum();
+    assert!(reordered > 50, "{reordered} listings in another order than filed");
+}
+
+/// Few cards with many faults each.
+#[test]
+fn long_histories() {
+    for seed in 201..=205 {
+        let met = hold_to_the_book(3, 300, 3, 3 * WAVE, seed);
+        assert!(met.reordered > 100, "{} listings in another order than filed", met.reordered);
     }
 }
 
 #[test]
 fn stores_that_grow_and_contract() {
     for (seed, cards) in [(101, 90), (102, 150), (103, 300)] {
-        let (splits, contractions) = hold_to_the_book(cards, 200, 400, 6 * WAVE, seed);
+        let Met { splits, contractions, .. } = hold_to_the_book(cards, 200, 400, 6 * WAVE, seed);
         assert!(splits > 10 && contractions > 10, "{splits} splits, {contractions} contractions");
     }
+}
+
+/// The answer line of a call that gave these numbers: what it listed stands in the room.
+fn answer_line(call: &Call, numbers: [u32; 4], room: &[u32]) -> String {
+    let listed = match (call, numbers[0]) {
+        (Call::Show(_) | Call::Withdraw(_), 0) => numbers[3] as usize,
+        _ => 0,
+    };
+    let pairs = room.chunks(2).take(listed).map(|pair| format!(" {}:{}", pair[0], pair[1]));
+    numbers.map(|number| number.to_string()).join(" ") + &pairs.collect::<String>()
 }
 
 /// A job leaves the words, and gives the answers, of its calls one by one.
@@ -226,7 +271,11 @@ fn a_job_is_its_calls() {
     let calls = random_calls(&mut random, 300, 1_000);
     let text: String = calls.iter().map(job_line).collect();
     let mut single = Reader::open(256, 512);
-    let answers: Vec<[u32; 4]> = calls.iter().map(|call| answer(&mut single, call)).collect();
+    let answers = calls.iter().map(|call| {
+        let numbers = answer(&mut single, call);
+        answer_line(call, numbers, &single.room)
+    });
+    let answers: Vec<String> = answers.collect();
 
     let mut reader = Reader::open(256, 512);
     let mut out = vec![0; 100_000];
@@ -234,8 +283,5 @@ fn a_job_is_its_calls() {
     assert_eq!((done.number, done.lines as usize), (0, calls.len()));
     assert_eq!(reader.words, single.words);
     let output = String::from_utf8(out[..done.bytes as usize].to_vec()).unwrap();
-    for (line, answer) in output.lines().zip(answers) {
-        let numbers: Vec<u32> = line.split(' ').take(4).map(|number| number.parse().unwrap()).collect();
-        assert_eq!(numbers, answer);
-    }
+    assert_eq!(output.lines().collect::<Vec<_>>(), answers);
 }
