@@ -9,16 +9,8 @@ static bool lists(enum operation operation) {
     return operation == SHOW || operation == WITHDRAW;
 }
 
-/* Day, code for each fault, in filing order. */
-static void write_pairs(const uint32_t *words, uint32_t card, uint32_t *pairs) {
-    for (uint32_t cell = words[card_at(card) + FIRST_FAULT]; cell != 0; cell = words[fault_at(words, cell) + NEXT]) {
-        *pairs++ = words[fault_at(words, cell) + DAY];
-        *pairs++ = words[fault_at(words, cell) + CODE];
-    }
-}
-
 struct answer call(uint32_t *words, size_t length, uint8_t *scratch, size_t scratch_size, const struct request *request,
-                   uint32_t *pairs, size_t room) {
+                   struct pair *list, size_t room) {
     if (scratch_size < SCRATCH) {
         return refused(11);
     }
@@ -30,12 +22,12 @@ struct answer call(uint32_t *words, size_t length, uint8_t *scratch, size_t scra
         return plan.answer;
     }
     if (lists(request->operation)) {
-        if (room < 2 * (size_t)plan.answer.faults) {
+        if (room < plan.answer.faults) {
             plan.answer.number = 10;
             plan.answer.scanned = 0;
             return plan.answer;
         }
-        write_pairs(words, plan.spot.cell, pairs);
+        list_faults(words, plan.spot.cell, list);
     }
     change(words, request, &plan.spot);
     return plan.answer;

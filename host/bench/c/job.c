@@ -43,22 +43,25 @@ static struct plan plan_line(const uint32_t *words, const uint8_t *line, size_t 
     return decide(words, request);
 }
 
-/* The card whose faults an accepted line lists, or 0. */
-static uint32_t card_listed(const struct request *request, const struct spot *spot) {
-    return request->operation == SHOW || request->operation == WITHDRAW ? spot->cell : 0;
+/* Lists the faults that an accepted line shows, and gives their number. */
+static uint32_t list_shown(const uint32_t *words, const struct request *request, const struct spot *spot,
+                           struct pair *list) {
+    bool shows = request->operation == SHOW || request->operation == WITHDRAW;
+    return shows ? list_faults(words, spot->cell, list) : 0;
 }
 
 /* Answers one line and does it, and gives the bytes written: 0 if the answer does not fit, and then nothing is done. */
-static size_t run_line(uint32_t *words, const uint8_t *line, size_t length, struct room out, struct tally *tally) {
+static size_t run_line(uint32_t *words, const uint8_t *line, size_t length, struct pair *list, struct room out,
+                       struct tally *tally) {
     struct request request;
     struct plan plan = plan_line(words, line, length, &request);
     bool done = plan.answer.number == 0;
-    uint32_t card = done ? card_listed(&request, &plan.spot) : 0;
-    size_t needed = answer_length(words, &plan.answer, card);
+    uint32_t count = done ? list_shown(words, &request, &plan.spot, list) : 0;
+    size_t needed = answer_length(&plan.answer, list, count);
     if (needed > out.length) {
         return 0;
     }
-    write_answer(words, &plan.answer, card, out.bytes);
+    write_answer(&plan.answer, list, count, out.bytes);
     add(&tally->comparisons, plan.answer.comparisons);
     if (done) {
         carry_out(words, &request, &plan.spot, tally);
@@ -73,11 +76,12 @@ static size_t line_length(const uint8_t *text, size_t rest) {
 }
 
 static struct done run_lines(uint32_t *words, struct text text, struct room out, struct tally *tally) {
+    struct pair list[MOST_FAULTS];
     struct done done = {0, 0, 0};
     for (size_t at = 0; at < text.length;) {
         size_t length = line_length(text.bytes + at, text.length - at);
         struct room left = {out.bytes + done.bytes, out.length - done.bytes};
-        size_t written = run_line(words, text.bytes + at, length, left, tally);
+        size_t written = run_line(words, text.bytes + at, length, list, left, tally);
         if (written == 0) {
             done.number = 10;
             return done;

@@ -7,10 +7,11 @@
 #include "job.h"
 
 enum { MOST_INPUT = 262144, OUT = 65536, HEAD = 11, DIGITS = 9 };
-enum { WORDS = CARDS + CARD_WORDS * MOST_CARDS + FAULT_WORDS * MOST_FAULTS, PAIRS = 2 * MOST_FAULTS };
+enum { WORDS = CARDS + CARD_WORDS * MOST_CARDS + FAULT_WORDS * MOST_FAULTS };
 
 static uint8_t input[MOST_INPUT], out[OUT], scratch[SCRATCH];
-static uint32_t words[WORDS], pairs[PAIRS];
+static uint32_t words[WORDS];
+static struct pair list[MOST_FAULTS];
 
 struct sums {
     uint64_t numbers, lines, bytes;
@@ -71,10 +72,10 @@ static void job(struct text text, bool written, struct sums *sums) {
 static void show(struct text text, struct sums *sums) {
     struct request request = {SHOW, {{0}, text.length}, 0, 0};
     memcpy(request.serial.bytes, text.bytes, text.length < SERIAL_BYTES ? text.length : SERIAL_BYTES);
-    struct answer answer = call(words, WORDS, scratch, SCRATCH, &request, pairs, PAIRS);
+    struct answer answer = call(words, WORDS, scratch, SCRATCH, &request, list, MOST_FAULTS);
     sums->numbers += answer.number;
     sums->lines += 1;
-    sums->bytes += 2 * sizeof *pairs * answer.faults;
+    sums->bytes += sizeof *list * answer.faults;
 }
 
 static void check(struct sums *sums) {

@@ -27,6 +27,11 @@ struct answer {
     uint32_t number, comparisons, scanned, faults;
 };
 
+/* A fault as it is listed. */
+struct pair {
+    uint32_t day, code;
+};
+
 /* Where a search ended. If the card is held, its cell, the cell before it on the chain or 0, and its place from 1;
  * if not, cell 0, the chain's last cell or 0, and the chain's length. */
 struct spot {
@@ -50,11 +55,14 @@ struct spot search(const uint32_t *words, const struct serial *serial);
 /* The answer but for 10, which is for whoever knows the room. */
 struct plan decide(const uint32_t *words, const struct request *request);
 
+/* Lists the faults of the card in this cell by rising day, those of one day as filed, and gives their number. */
+uint32_t list_faults(const uint32_t *words, uint32_t card, struct pair *list);
+
 /* Does what was decided with number 0. */
 void change(uint32_t *words, const struct request *request, const struct spot *spot);
 
-/* A call on any words at all, checked. `room` counts words, and pairs are written there. */
+/* A call on any words at all, checked. Faults are listed in `list`, which has room for so many. */
 struct answer call(uint32_t *words, size_t length, uint8_t *scratch, size_t scratch_size, const struct request *request,
-                   uint32_t *pairs, size_t room);
+                   struct pair *list, size_t room);
 
 #endif

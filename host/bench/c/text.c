@@ -19,29 +19,23 @@ static uint8_t *write_number(uint8_t *out, uint32_t number) {
     return end;
 }
 
-/* The first fault of the card whose faults are listed. */
-static uint32_t first_listed(const uint32_t *words, uint32_t card) {
-    return card == 0 ? 0 : words[card_at(card) + FIRST_FAULT];
-}
-
-size_t answer_length(const uint32_t *words, const struct answer *answer, uint32_t card) {
+size_t answer_length(const struct answer *answer, const struct pair *list, uint32_t count) {
     size_t length = digits_of(answer->number) + digits_of(answer->comparisons) + digits_of(answer->scanned) +
                     digits_of(answer->faults) + 4;
-    for (uint32_t cell = first_listed(words, card); cell != 0; cell = words[fault_at(words, cell) + NEXT]) {
-        const uint32_t *fault = words + fault_at(words, cell);
-        length += digits_of(fault[DAY]) + digits_of(fault[CODE]) + 2;
+    for (uint32_t i = 0; i < count; i++) {
+        length += digits_of(list[i].day) + digits_of(list[i].code) + 2;
     }
     return length;
 }
 
-static uint8_t *write_fault(uint8_t *out, const uint32_t *fault) {
+static uint8_t *write_pair(uint8_t *out, struct pair pair) {
     *out++ = ' ';
-    out = write_number(out, fault[DAY]);
+    out = write_number(out, pair.day);
     *out++ = ':';
-    return write_number(out, fault[CODE]);
+    return write_number(out, pair.code);
 }
 
-void write_answer(const uint32_t *words, const struct answer *answer, uint32_t card, uint8_t *out) {
+void write_answer(const struct answer *answer, const struct pair *list, uint32_t count, uint8_t *out) {
     out = write_number(out, answer->number);
     *out++ = ' ';
     out = write_number(out, answer->comparisons);
@@ -49,8 +43,8 @@ void write_answer(const uint32_t *words, const struct answer *answer, uint32_t c
     out = write_number(out, answer->scanned);
     *out++ = ' ';
     out = write_number(out, answer->faults);
-    for (uint32_t cell = first_listed(words, card); cell != 0; cell = words[fault_at(words, cell) + NEXT]) {
-        out = write_fault(out, words + fault_at(words, cell));
+    for (uint32_t i = 0; i < count; i++) {
+        out = write_pair(out, list[i]);
     }
     *out = '\n';
 }

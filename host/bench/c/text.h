@@ -4,10 +4,10 @@
 
 #include "store.h"
 
-/* How long the answer's line is with its LF. Faults are listed if `card`, a cell, is not 0. */
-size_t answer_length(const uint32_t *words, const struct answer *answer, uint32_t card);
+/* How long the answer's line is with its LF, with so many faults listed. */
+size_t answer_length(const struct answer *answer, const struct pair *list, uint32_t count);
 
 /* Writes that line. */
-void write_answer(const uint32_t *words, const struct answer *answer, uint32_t card, uint8_t *out);
+void write_answer(const struct answer *answer, const struct pair *list, uint32_t count, uint8_t *out);
 
 #endif

@@ -18,7 +18,7 @@ impl Fault {
     }
 }
 
-/// The tally is of entries, withdrawals and filings.
+/// A history stands as it is listed: by rising day, those of one day as filed. The tally is of entries, withdrawals and filings.
 #[derive(Default)]
 pub struct Store {
     cards: HashMap<Serial, Vec<Fault>>,
@@ -75,7 +75,8 @@ impl Store {
             Some(history) => {
                 let fits = out.answer(0, history.len() + 1, &[]);
                 if fits {
-                    history.push(fault);
+                    let behind = history.partition_point(|filed| filed.day <= fault.day);
+                    history.insert(behind, fault);
                     self.faults += 1;
                     self.tally[2] += 1;
                 }

@@ -38,12 +38,14 @@ pub fn bytes(frames: &[Frame], written: bool) -> Vec<u8> {
     all
 }
 
-/// The same frames with an empty job before each job: it does nothing but test soundness.
+/// The same frames with an empty job before each job, which does nothing but test soundness, and a test before each call.
 pub fn tested_twice(frames: &[Frame]) -> Vec<Frame> {
     let mut twice = Vec::new();
     for frame in frames {
-        if let Frame::Job(_) = frame {
-            twice.push(Frame::Job(Vec::new()));
+        match frame {
+            Frame::Job(_) => twice.push(Frame::Job(Vec::new())),
+            Frame::Show(_) => twice.push(Frame::Check),
+            _ => (),
         }
         twice.push(frame.clone());
     }

@@ -1,14 +1,15 @@
 //! The texts of the benchmark, the same in each run: frames on standard output, as README.md tells.
 //!
 //! `texts whole WORKLOAD CARDS TURNS` writes a workload for a store of so many cards; `texts base ..` the same with nothing to measure
-//! in its turns; `texts twice ..` the same as `whole` with an empty job before each job measured, so that soundness is tested twice;
-//! `texts written ..` the same as `whole` with the answers written. `texts odd`, `texts brim` and `texts single` are not for timing:
-//! they are odd lines, the limits of the store, and single calls.
+//! in its turns; `texts twice ..` the same as `whole` with an empty job before each job measured, and a test before each call, so that
+//! soundness is tested twice; `texts written ..` the same as `whole` with the answers written. `texts odd`, `texts brim` and `texts
+//! single` are not for timing: they are odd lines, the limits of the store, and single calls.
 //!
 //! `texts tested WORKLOAD GROUP TURNS` writes stores, and that a report is made over each group of so many of them; `texts again ..` the
 //! same with a second report of each group, without tests of soundness; `texts base ..` the same as `tested` with no turns; `texts written
 //! ..` the same as `again` with the last text written.
 mod frame;
+mod histories;
 mod limits;
 mod odd;
 mod stores;
@@ -63,9 +64,11 @@ fn reported(form: &str, name: &str, group: &str, turns: &str) -> Option<Vec<u8>>
 }
 
 fn usage() {
+    let orders = workload::ORDERS.map(|(name, _)| name);
     eprintln!("usage: texts base|whole|twice|written {} CARDS TURNS", workload::NAMES.join("|"));
+    eprintln!("       texts base|whole|twice|written {}[-calls] CARDS TURNS", orders.join("|"));
     eprintln!("       texts base|tested|again|written {} GROUP TURNS", stores::NAMES.join("|"));
     eprintln!("       texts odd|brim|single");
-    eprintln!("CARDS is one of 64, 128, 256, 512 and 1024");
+    eprintln!("CARDS is one of 1, 64, 128, 256, 512 and 1024");
     process::exit(2);
 }

@@ -1,6 +1,8 @@
 //! The workloads. Each has about as many lines for every number of cards, in jobs of like size, so that a line's cost can be
-//! compared: a job tests soundness once, and that costs the same whatever the number of cards.
+//! compared: a job tests soundness once, and that costs the same whatever the number of cards. Those that list histories show every
+//! card once a turn, 2,048 faults together.
 use crate::frame::{jobs, Frame};
+use crate::histories::{self, Order};
 use reference::random::Random;
 use std::collections::BTreeSet;
 
@@ -12,6 +14,10 @@ const CALLS: usize = 64;
 
 pub const NAMES: [&str; 7] = ["fill", "show", "file", "churn", "day", "call", "check"];
 
+/// Workloads that list histories, by the order of their days. With `-calls` behind the name it is done by checked calls and not by jobs.
+pub const ORDERS: [(&str, Order); 3] =
+    [("rising", histories::rising), ("late", histories::late), ("falling", histories::falling)];
+
 /// `ground` is done once. Then come the turns, each of them `shared` and `measured`; the time of turns of `shared` alone is taken off.
 /// A turn leaves the same cards behind that it found, or begins with Open.
 #[derive(Default)]
@@ -22,11 +28,14 @@ pub struct Workload {
 }
 
 pub fn named(name: &str, cards: usize) -> Option<Workload> {
-    if ![64, 128, 256, 512, MOST].contains(&cards) {
+    if ![1, 64, 128, 256, 512, MOST].contains(&cards) {
         return None;
     }
     let mut random = Random::new(SEED);
     let serials = serials(&mut random, cards);
+    if let Some((order, calls)) = order(name) {
+        return Some(listed(&mut random, &serials, order, calls));
+    }
     let make = match name {
         "fill" => fill,
         "show" => show,
@@ -38,6 +47,13 @@ pub fn named(name: &str, cards: usize) -> Option<Workload> {
         _ => return None,
     };
     Some(make(&mut random, &serials))
+}
+
+/// The order of a workload that lists histories, and whether it does so by calls.
+fn order(name: &str) -> Option<(Order, bool)> {
+    let (first, calls) = name.strip_suffix("-calls").map_or((name, false), |first| (first, true));
+    let (_, order) = ORDERS.iter().find(|(known, _)| *known == first)?;
+    Some((*order, calls))
 }
 
 /// From none to all cards and back to none.
@@ -85,6 +101,18 @@ fn call(random: &mut Random, serials: &[String]) -> Workload {
 /// The checker alone.
 fn check(random: &mut Random, serials: &[String]) -> Workload {
     Workload { ground: full_store(random, serials), measured: vec![Frame::Check; CALLS], ..Workload::default() }
+}
+
+/// Histories shown, every card once.
+fn listed(random: &mut Random, serials: &[String], order: Order, calls: bool) -> Workload {
+    let filings = histories::filings(random, serials, order);
+    let ground = [filled_store(serials), jobs(&filings)].concat();
+    let measured = if calls {
+        shuffled(random, serials).into_iter().map(|serial| Frame::Show(serial.into_bytes())).collect()
+    } else {
+        jobs(&show_all(random, serials))
+    };
+    Workload { ground, measured, ..Workload::default() }
 }
 
 // ---- stores
