@@ -2,10 +2,10 @@
 -- ones with short scratch included. Each call is, by `call-cases` and `open-cases`, nothing, a fresh store, or the act on the store that
 -- the words stand for; so what holds of one act holds of one call (`kept-call`, `book-call`), and a run of calls is a fold of that.
 -- `demand3`: the words stay sound, each held card's history is what calls and answers alone tell of its serial, faults accepted are
--- those held and those gone, and 9 is answered exactly when the first less the last is the fault limit, which is the one that the last
--- accepted Open was asked for (`limit-of-the-last-open`); and Show and Withdraw list the faults of that history, each as often. `demand2`: every call tells what
--- a plain list of cards would tell, and after every call the store holds under each serial what that list holds; `demand2-from`: the same from any
--- sound store on, with its own cards as the list.
+-- those held and those gone, 9 is answered exactly when the first less the last is the fault limit, which is the one that the last
+-- accepted Open was asked for (`limit-of-the-last-open`), and Show and Withdraw list the faults of that history, each as often.
+-- `demand2`: every call tells what a plain list of cards would tell, and after every call the store holds under each serial what that list
+-- holds; `demand2-from`: the same from any sound store on, with its own cards as the list.
 use Prim.Native.Nat.{ℕ, _+_, _-_, _≤_}
 use mathlib.Core.Path.{_≡_, refl, sym, ap, _∙_}
 use mathlib.Core.Logic.{_↔_}

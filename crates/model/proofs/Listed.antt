@@ -1,6 +1,6 @@
--- What Show and Withdraw leave in a room, as demand 3 speaks of it: behind which no word is touched, pairs that list the faults of a
--- history (`ByDay`): by rising day, those of one day as filed, each fault as often as it was filed. What is written of a history
--- is such a room (`written-listed`), whether faults are seen with their cells or without (`listed-slips`).
+-- What Show and Withdraw leave in a room, as demand 3 speaks of it (`Listed`): two words a fault at its front, and no word behind them touched.
+-- The pairs there list the faults of a history (`ByDay`): by rising day, those of one day as filed, each fault as often as it was filed.
+-- What is written of a history is so (`written-listed`); faults may be seen with their cells or without (`listed-slips`).
 use Prim.Native.Nat.{ℕ, _*_}
 use mathlib.Core.Path.{_≡_, refl, sym, ap, _∙_}
 use mathlib.Core.List.{List, [], _∷_, map}

@@ -45,10 +45,11 @@ abbrev pub slipPairs : List Slip → List ℕ
 slipPairs [] = []
 slipPairs (f ∷ fs) = f .day ∷ f .code ∷ slipPairs fs
 
--- listed by rising day, equal days as filed, at the front of a room
+-- what Show and Withdraw list: the slips by rising day, equal days as filed
 abbrev pub slipListing : List Slip → List Slip
 slipListing fs = byDay (λ f. f .day) fs
 
+-- their pairs at the front of a room, and no later word touched
 abbrev pub slipsWritten : List Slip → List ℕ → List ℕ
 slipsWritten fs room = slipPairs (slipListing fs) ++ drop (2 * length fs) room
 
