@@ -80,6 +80,14 @@ module _ {w : List ℕ} {h : Header} (s : Sized w h) where
   unfolding cardWord cellAt
   card-is i k a b l = part-word w (h .base) (h .width * (i - 1)) k (card-in i k a b l) ∙ (λ t. getD w (s .base t + s .width t * (i - 1) + k) 0)
 
+  -- the same word, read in the words from that of the first cell on
+  pub end-is : (i k : ℕ) → 1 ≤ i → i ≤ h .cards → k < h .width
+      → getD (take (length w - (h .base + k)) (drop (h .base + k) w)) (h .width * (i - 1)) 0 ≡ cardWord (shapeIn h) w i k
+  unfolding cardWord cellAt
+  end-is i k a b l =
+      getD-take (length w - (h .base + k)) (drop (h .base + k) w) (h .width * (i - 1)) 0 (omega (arith, card-in i k a b l)) ∙ getD-drop (h .base + k) w (h .width * (i - 1)) 0
+      ∙ ap (λ (n : ℕ). getD w n 0) (let z : h .base + k + h .width * (i - 1) ≡ h .base + h .width * (i - 1) + k = omega arith in z) ∙ (λ t. getD w (s .base t + s .width t * (i - 1) + k) 0)
+
   fault-in : (i k : ℕ) → 1 ≤ i → i ≤ h .faults → k < faultWidth → h .behind + faultWidth * (i - 1) + k < length w
   fault-in i k a b l = let r = s .room in omega arith
 

@@ -24,7 +24,8 @@ pub mod SoundParts
 pub mod Decides
 pub mod AlongLaws
 pub mod ClearLaws
--- Laws of the search, of the words of a store as they are read, and of what is found there
+-- Laws of keys compared, of the search, of the words of a store as they are read, and of what is found there
+pub mod KeyLaws
 pub mod SearchLaws
 pub mod StoredLaws
 pub mod FindLaws

@@ -64,7 +64,10 @@ pub record Read (w : List ℕ) (h : Header) : Type 0 where
   pub maxp : getD w maxpAt 0 ≡ h .maxp
   pub state : getD w pAt 0 ≡ h .p
 
--- four bytes as a word, the first highest
+-- how many bytes of a serial a word holds, and four bytes as a word, the first highest
+abbrev pub wordBytes : ℕ
+wordBytes = 4
+
 abbrev pub fourBytes : ℕ → ℕ → ℕ → ℕ → ℕ
 fourBytes a b c d = ((a * 256 + b) * 256 + c) * 256 + d
 
@@ -75,7 +78,10 @@ packedAll bytes = packed bytes 0 ∷ packed bytes 4 ∷ packed bytes 8 ∷ packe
 abbrev pub unpackedAll : ℕ → ℕ → ℕ → ℕ → List ℕ
 unpackedAll a b c d = bytesOf a ++ (bytesOf b ++ (bytesOf c ++ bytesOf d))
 
--- a card's sixteen bytes as they stand in its cell
+-- the four words of a card's serial, and its sixteen bytes as they stand in its cell
+abbrev pub keyAt : Shape → List ℕ → ℕ → List ℕ
+keyAt sh w i = cardWord sh w i toSerial ∷ cardWord sh w i (toSerial + 1) ∷ cardWord sh w i (toSerial + 2) ∷ cardWord sh w i (toSerial + 3) ∷ []
+
 unfoldable pub bytesAt : Shape → List ℕ → ℕ → List ℕ
 bytesAt sh w i = unpackedAll (cardWord sh w i toSerial) (cardWord sh w i (toSerial + 1)) (cardWord sh w i (toSerial + 2)) (cardWord sh w i (toSerial + 3))
 

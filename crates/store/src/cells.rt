@@ -2,13 +2,13 @@
 ghost use mathlib.Core.Path.{_≡_};
 ghost use mathlib.Core.Bool.{cond};
 ghost use Prim.Native.Nat.{_≤_, _<_};
-ghost use lib.Dec.{eqb};
 ghost use Rattle.model.specs.Layout.{faultWidth, cardWord, faultWord};
 ghost use Rattle.model.specs.Meaning.{bucketWord};
 ghost use Rattle.model.specs.Shape.{cardWidth};
-ghost use Rattle.store.specs.Cells.{shapeIn, Sized, Read, limitOf, widthOf, cellWord, sameKey, metFirst, bytesAt, freeFits, faultFits, cardFits, Suits, cellFits};
+ghost use Rattle.store.specs.Cells.{shapeIn, Sized, Read, limitOf, widthOf, cellWord, metFirst, bytesAt, freeFits, faultFits, cardFits, Suits, cellFits};
 use crate::header;
 use crate::header::Header;
+use crate::keys;
 use crate::layout;
 use crate::serial;
 
@@ -104,41 +104,6 @@ fn fault_fits(w: &[u32], h: Header, i: u32) -> bool
     )
 }
 
-// Whether word k of two cards is the same.
-fn same_word(w: &[u32], h: Header, i: u32, j: u32, k: usize) -> bool
-    requires { ⌜ Sized (now w) h × (1 ≤ i) × (i ≤ h .cards) × (1 ≤ j) × (j ≤ h .cards) × (k < h .width) ⌝ }
-    ensures { λ r. ⌜ r ≡ eqb (cardWord (shapeIn h) (now (w .entry)) i k) (cardWord (shapeIn h) (now (w .entry)) j k) ⌝ }
-{
-    card_word(w, h, i, k) == card_word(w, h, j, k)
-}
-
-// The serial's words behind its first.
-const SECOND: usize = layout::TO_SERIAL + 1;
-
-const THIRD: usize = layout::TO_SERIAL + 2;
-
-const FOURTH: usize = layout::TO_SERIAL + 3;
-
-// Whether two cards have the same serial: its length and its four words.
-pub fn same_key(w: &[u32], h: Header, i: u32, j: u32) -> bool
-    requires { ⌜ Sized (now w) h × (1 ≤ i) × (i ≤ h .cards) × (1 ≤ j) × (j ≤ h .cards) ⌝ }
-    ensures { λ r. ⌜ r ≡ sameKey (shapeIn h) (now (w .entry)) i j ⌝ }
-{
-    if !same_word(w, h, i, j, layout::TO_LENGTH) {
-        return false;
-    }
-    if !same_word(w, h, i, j, layout::TO_SERIAL) {
-        return false;
-    }
-    if !same_word(w, h, i, j, SECOND) {
-        return false;
-    }
-    if !same_word(w, h, i, j, THIRD) {
-        return false;
-    }
-    same_word(w, h, i, j, FOURTH)
-}
-
 // Whether card i is met from cell `first` on before any other card with its serial.
 fn met_first(w: &[u32], h: Header, first: u32, i: u32) -> bool
     requires { ⌜ Sized (now w) h × (1 ≤ i) × (i ≤ h .cards) ⌝ }
@@ -154,7 +119,7 @@ fn met_first(w: &[u32], h: Header, first: u32, i: u32) -> bool
         if !layout::within(1, c, j) {
             return false;
         }
-        if same_key(w, h, j, i) {
+        if keys::same_key(w, h, j, i) {
             return false;
         }
         j = card_word(w, h, j, layout::TO_NEXT);
@@ -168,11 +133,8 @@ pub fn bytes_at(w: &[u32], h: Header, i: u32) -> [u8; 16]
     requires { ⌜ Sized (now w) h × (1 ≤ i) × (i ≤ h .cards) ⌝ }
     ensures { λ r. ⌜ r ≡ bytesAt (shapeIn h) (now (w .entry)) i ⌝ }
 {
-    let a = card_word(w, h, i, layout::TO_SERIAL);
-    let b = card_word(w, h, i, SECOND);
-    let d = card_word(w, h, i, THIRD);
-    let e = card_word(w, h, i, FOURTH);
-    serial::unpack(a, b, d, e)
+    let key = keys::key_at(w, h, i);
+    serial::unpack(key[0], key[1], key[2], key[3])
 }
 
 // A card of bucket b has a valid serial with zero padding, its address is b, and no card before it on the chain has its serial.

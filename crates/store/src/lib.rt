@@ -17,6 +17,7 @@ mod files; // files.rt: File on a sound store
 mod fresh; // fresh.rt: the words of a fresh store
 mod front; // front.rt: the checker on the words before the cells
 mod header; // header.rt: the header, read once
+mod keys; // keys.rt: serials compared, the last byte first
 mod layout; // layout.rt: every number of the layout; lengths, offsets and limits of a shape
 mod marks; // marks.rt: which cells were met, a bit each
 pub mod numbers; // numbers.rt: the numbers of refusals

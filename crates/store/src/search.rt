@@ -1,16 +1,17 @@
 // The search of a bucket's chain for a serial: it counts the cards that it compares.
 ghost use mathlib.Core.Path.{_≡_};
 ghost use mathlib.Core.Bool.{true};
-ghost use Prim.Native.Nat.{_≤_};
-ghost use lib.ListN.{take};
+ghost use Prim.Native.Nat.{_≤_, _<_};
+ghost use lib.ListN.{take, getD};
 ghost use Rattle.model.specs.Serial.{validSerial};
-ghost use Rattle.model.specs.Layout.{decode, sound};
+ghost use Rattle.model.specs.Layout.{serialWords, decode, sound};
 ghost use Rattle.model.specs.Meaning.{nextCard};
 ghost use Rattle.store.specs.Cells.{shapeIn, Sized};
 ghost use Rattle.store.specs.Search.{Ends, hasKey, searched, Finds};
 use crate::cells;
 use crate::header;
 use crate::header::Header;
+use crate::keys;
 use crate::layout;
 use crate::serial;
 
@@ -32,22 +33,23 @@ pub struct Spot {
     pub prev: u32,
 }
 
-// Whether card i has a serial of this length and these four words: lengths and all bytes are compared, never codes.
-fn has_key(w: &[u32], h: Header, i: u32, len: u32, key: [u32; layout::SERIAL_WORDS]) -> bool
-    requires { ⌜ Sized (now w) h × (1 ≤ i) × (i ≤ h .cards) ⌝ }
+// Whether card i has the key. Most cards are told by the word that holds the key's last byte, which is `end`.
+fn is_sought(
+    w: &[u32],
+    h: Header,
+    i: u32,
+    len: u32,
+    key: [u32; layout::SERIAL_WORDS],
+    last: usize,
+    end: u32,
+) -> bool
+    requires { ⌜ Sized (now w) h × (1 ≤ i) × (i ≤ h .cards) × (last < serialWords) × (end ≡ getD key last 0) ⌝ }
     ensures { λ r. ⌜ r ≡ hasKey (shapeIn h) (now (w .entry)) i len key ⌝ }
 {
-    if cells::card_word(w, h, i, layout::TO_LENGTH) != len {
+    if keys::end_word(w, h, i, last) != end {
         return false;
     }
-    let mut k: usize = 0;
-    while k < layout::SERIAL_WORDS {
-        if cells::card_word(w, h, i, k + layout::TO_SERIAL) != key[k] {
-            return false;
-        }
-        k += 1;
-    }
-    true
+    keys::has_key(w, h, i, len, key)
 }
 
 // Goes along the chain from cell `first` until a card has the serial, and counts the cards compared.
@@ -55,12 +57,14 @@ pub fn search(w: &[u32], h: Header, first: u32, len: u32, key: [u32; layout::SER
     requires { ⌜ Sized (now w) h × Ends (h .cards) (nextCard (shapeIn h) (now w)) first ⌝ }
     ensures { λ r. ⌜ r ≡ searched (shapeIn h) (now (w .entry)) first len key ⌝ }
 {
+    let last = keys::last_word(len);
+    let end = key[last];
     let mut i = first;
     let mut n: u32 = 0;
     let mut prev: u32 = 0;
     while i != 0 {
         n += 1;
-        if has_key(w, h, i, len, key) {
+        if is_sought(w, h, i, len, key, last, end) {
             return Found {
                 held: true,
                 place: n,
@@ -85,11 +89,11 @@ pub fn find(w: &[u32], serial: [u8; 16], len: usize) -> Spot
     requires { ⌜ (sound (now w) ≡ true) × (validSerial serial len ≡ true) ⌝ }
     ensures { λ r. ⌜ Finds (decode (now (w .entry))) (take len serial) r ⌝ }
 {
+    let key = serial::pack(serial);
     let h = header::header_of(w);
     let code = rules::serial_code(serial, len);
     let b = rules::reader_address(code, h.maxp, h.p);
     let first = cells::bucket_word(w, h, b);
-    let key = serial::pack(serial);
     let r = search(w, h, first, len as u32, key);
     Spot {
         bucket: b,

@@ -11,7 +11,7 @@ use Rattle.store.proofs.search.find.Tie as tie
 
 -- the start, and the header as it was read
 abbrev start : tie.After-header-of → tie.Start
-start c = c .before .before
+start c = c .before .before .before
 
 abbrev read : tie.After-reader-address → tie.After-header-of
 read c = c .before .before
@@ -28,22 +28,22 @@ bucket-word-requires c κs =
     (h .header-of .ensures .sized, home-below _ (a .pre .0) (h .header-of .ensures) (a .args .serial) (a .args .len) (home c))
 
 cast-search : tie.Need-cast-search
-cast-search c = let a = start (read (c .before .before)) in omega (arith, valid-short (a .args .serial) (a .args .len) (a .pre .1))
+cast-search c = let a = start (read (c .before)) in omega (arith, valid-short (a .args .serial) (a .args .len) (a .pre .1))
 
 search-requires : tie.Need-search-requires
 search-requires c κs =
-    let h = read (c .before .before) in
+    let h = read (c .before) in
     let a = start h in
     let q = h .header-of .ensures in
-    (q .sized, rw (c .before .bucket-word .ensures) (home-ends _ (a .pre .0) q (a .args .serial) (a .args .len) (home (c .before .before))))
+    (q .sized, rw (c .bucket-word .ensures) (home-ends _ (a .pre .0) q (a .args .serial) (a .args .len) (home (c .before))))
 
 returns : tie.Need-returns
 returns c =
-    let h = read (c .before .before .before) in
+    let h = read (c .before .before) in
     let a = start h in
     let q = h .header-of .ensures in
-    home-finds _ (a .pre .0) q (a .args .serial) (a .args .len) (home (c .before .before .before)) (a .pre .1) _
-    (rw (← (c .before .before .bucket-word .ensures), ← (c .before .pack .ensures)) (c .search .ensures))
+    home-finds _ (a .pre .0) q (a .args .serial) (a .args .len) (home (c .before .before)) (a .pre .1) _
+    (rw (← (c .before .bucket-word .ensures), ← (h .before .pack .ensures)) (c .search .ensures))
 
 pub find-spec : {M : Type 1} → statement M
 find-spec =
@@ -52,8 +52,8 @@ find-spec =
     (λ c κs. search needs)
     (λ c κs. search needs)
     (λ c κs. search needs)
-    bucket-word-requires
     (λ c κs. search needs)
+    bucket-word-requires
     cast-search
     search-requires
     returns)
