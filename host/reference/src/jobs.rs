@@ -8,7 +8,7 @@ const SEED: u64 = 1_980;
 /// What jobs of a kind are called, how many there are, and how one is made.
 type Kind = (&'static str, usize, fn(&mut Random, usize) -> Vec<u8>);
 
-const KINDS: [Kind; 16] = [
+const KINDS: [Kind; 17] = [
     ("valid", 30, valid),
     ("late", 20, late),
     ("growth", 30, growth),
@@ -25,6 +25,7 @@ const KINDS: [Kind; 16] = [
     ("sizes", 12, sizes),
     ("ends", 12, ends),
     ("mixed", 20, mixed),
+    ("alike", 21, alike),
 ];
 
 pub struct Job {
@@ -328,5 +329,27 @@ fn mixed(random: &mut Random, _: usize) -> Vec<u8> {
         }
         2 => format!("{}\r", command(random, 30)).into_bytes(),
         _ => command(random, 30).into_bytes(),
+    }))
+}
+
+/// Serials of one length and one code, so of one chain, that differ in two bytes at the least: `AZ` and `B9` count alike. Those with few
+/// bytes of their own share ten before them or behind.
+fn alike(random: &mut Random, number: usize) -> Vec<u8> {
+    let pairs = 2 + number % 7;
+    let (first, last) = match (pairs, number % 2) {
+        (2 | 3, 0) => ("MAKER-2026", ""),
+        (2 | 3, _) => ("", "MAKER-2026"),
+        _ => ("", ""),
+    };
+    let count = 300 + random.below(300);
+    joined((0..count).map(|_| {
+        let own: String = (0..pairs).map(|_| ["AZ", "B9"][random.below(2)]).collect();
+        let serial = format!("{first}{own}{last}");
+        match random.below(10) {
+            0..=4 => format!("E {serial}"),
+            5 | 6 => format!("F {serial} {} {}", day(random), 1 + random.below(9_999)),
+            7 | 8 => format!("S {serial}"),
+            _ => format!("W {serial}"),
+        }
     }))
 }

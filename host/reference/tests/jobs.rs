@@ -43,6 +43,15 @@ fn the_table_grows_and_contracts() {
     }
 }
 
+/// Serials of one code stand in one chain, where nothing but their bytes tells them apart.
+#[test]
+fn long_chains_of_one_code_are_searched() {
+    let jobs = jobs::all();
+    let alike = jobs.iter().filter(|job| job.name.starts_with("alike"));
+    let found = alike.flat_map(answers).filter(|answer| answer[0] == 0);
+    assert!(found.map(|answer| answer[1]).max() >= Some(64));
+}
+
 #[test]
 fn inputs_stand_at_the_limits() {
     let jobs = jobs::all();
