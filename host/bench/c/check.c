@@ -81,7 +81,8 @@ struct met {
 };
 
 static bool same_serial(const uint32_t *a, const uint32_t *b) {
-    return memcmp(a + SERIAL_LENGTH, b + SERIAL_LENGTH, (1 + SERIAL_WORDS) * sizeof *a) == 0;
+    size_t last = last_word(b[SERIAL_LENGTH]);
+    return a[SERIAL + last] == b[SERIAL + last] && has_key(a, b[SERIAL_LENGTH], b + SERIAL);
 }
 
 /* Whether no card before this one on its chain has its serial. */

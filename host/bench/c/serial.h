@@ -50,6 +50,17 @@ static inline void pack(const struct serial *serial, uint32_t *words) {
     }
 }
 
+/* The word that holds the last byte of a serial of this length; of any other length one of the four. */
+static inline size_t last_word(uint32_t length) {
+    return (length - 1) / 4 % SERIAL_WORDS;
+}
+
+/* Whether a card cell has this length and these four words, compared from the last to the first. */
+static inline bool has_key(const uint32_t *card, uint32_t length, const uint32_t *key) {
+    return card[SERIAL + 3] == key[3] && card[SERIAL + 2] == key[2] && card[SERIAL + 1] == key[1] &&
+           card[SERIAL] == key[0] && card[SERIAL_LENGTH] == length;
+}
+
 /* The serial that a card cell holds. */
 static inline struct serial unpack(const uint32_t *card) {
     struct serial serial;

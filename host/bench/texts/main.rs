@@ -10,6 +10,7 @@
 //! ..` the same as `again` with the last text written.
 mod frame;
 mod histories;
+mod labels;
 mod limits;
 mod odd;
 mod stores;
@@ -65,8 +66,10 @@ fn reported(form: &str, name: &str, group: &str, turns: &str) -> Option<Vec<u8>>
 
 fn usage() {
     let orders = workload::ORDERS.map(|(name, _)| name);
+    let kinds = labels::KINDS.map(|(name, _)| name);
     eprintln!("usage: texts base|whole|twice|written {} CARDS TURNS", workload::NAMES.join("|"));
     eprintln!("       texts base|whole|twice|written {}[-calls] CARDS TURNS", orders.join("|"));
+    eprintln!("       texts base|whole|twice|written {}[-long][-check] CARDS TURNS", kinds.join("|"));
     eprintln!("       texts base|tested|again|written {} GROUP TURNS", stores::NAMES.join("|"));
     eprintln!("       texts odd|brim|single");
     eprintln!("CARDS is one of 1, 64, 128, 256, 512 and 1024");

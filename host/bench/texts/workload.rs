@@ -3,6 +3,7 @@
 //! card once a turn, 2,048 faults together.
 use crate::frame::{jobs, Frame};
 use crate::histories::{self, Order};
+use crate::labels::{Kind, KINDS};
 use reference::random::Random;
 use std::collections::BTreeSet;
 
@@ -32,6 +33,9 @@ pub fn named(name: &str, cards: usize) -> Option<Workload> {
         return None;
     }
     let mut random = Random::new(SEED);
+    if let Some(labels) = labels(name) {
+        return Some(searched(&mut random, cards, &labels));
+    }
     let serials = serials(&mut random, cards);
     if let Some((order, calls)) = order(name) {
         return Some(listed(&mut random, &serials, order, calls));
@@ -54,6 +58,20 @@ fn order(name: &str) -> Option<(Order, bool)> {
     let (first, calls) = name.strip_suffix("-calls").map_or((name, false), |first| (first, true));
     let (_, order) = ORDERS.iter().find(|(known, _)| *known == first)?;
     Some((*order, calls))
+}
+
+/// Serials of a kind, whether their chains are long, and whether the checker alone is measured.
+struct Labels {
+    kind: &'static Kind,
+    long: bool,
+    check: bool,
+}
+
+fn labels(name: &str) -> Option<Labels> {
+    let (name, check) = name.strip_suffix("-check").map_or((name, false), |first| (first, true));
+    let (name, long) = name.strip_suffix("-long").map_or((name, false), |first| (first, true));
+    let (_, kind) = KINDS.iter().find(|(known, _)| *known == name)?;
+    Some(Labels { kind, long, check })
 }
 
 /// From none to all cards and back to none.
@@ -111,6 +129,21 @@ fn listed(random: &mut Random, serials: &[String], order: Order, calls: bool) ->
         shuffled(random, serials).into_iter().map(|serial| Frame::Show(serial.into_bytes())).collect()
     } else {
         jobs(&show_all(random, serials))
+    };
+    Workload { ground, measured, ..Workload::default() }
+}
+
+/// A full store of cards without faults: every card shown, and as many that are not held, or the checker alone.
+fn searched(random: &mut Random, cards: usize, labels: &Labels) -> Workload {
+    let serials = labels.kind.serials(random, 2 * cards, labels.long);
+    let (held, missing) = serials.split_at(cards);
+    let ground = filled_store(held);
+    let measured = if labels.check {
+        vec![Frame::Check; CALLS]
+    } else {
+        let missed = missing.iter().cycle().take(cards).cloned();
+        let asked: Vec<String> = held.iter().cloned().chain(missed).collect();
+        jobs(&show_all(random, &asked))
     };
     Workload { ground, measured, ..Workload::default() }
 }
