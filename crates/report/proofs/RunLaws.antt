@@ -10,7 +10,7 @@ use borrow.Author.Tests.{leb-true, leb-false, le-leb, lt-leb, eqb-true, ne-eqb}
 use lib.Dec.{leb, eqb}
 use lib.ListN.{length, take, drop, getD, replicate, drop-of-length-le, length-append, length-drop, length-take}
 use lib.Seq.{take-all, take-nil, drop-nil, drop-cons, drop-drop, getD-take}
-use Rattle.rules.proofs.Tests.{by-cases, both}
+use Rattle.rules.proofs.Tests.{by-cases, both, and-true}
 use Rattle.model.specs.Lists.{all, total}
 use Rattle.model.specs.Shape.{faultsEver, need}
 use Rattle.model.specs.Bounds.{cardsEver}
@@ -78,10 +78,6 @@ testing-start run ns scratch l c =
 and-false : (a : Bool) → (a && false) ≡ false
 and-false true = refl
 and-false false = refl
-
-and-true : (a : Bool) → (a && true) ≡ a
-and-true true = refl
-and-true false = refl
 
 module _ {run ns scratch₀ scratch : List ℕ} {at i : ℕ} (a : Testing run ns scratch₀ scratch at i) where
   pub testing-end : length ns ≤ i → eqb at (length run) ≡ runSound run ns

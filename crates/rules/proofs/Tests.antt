@@ -21,6 +21,10 @@ both false b e = absurd (false≢true e)
 pub all-of : {a b : Bool} → a ≡ true → b ≡ true → (a && b) ≡ true
 all-of {a} {b} e f = ap (λ (t : Bool). t && b) e ∙ f
 
+pub and-true : (a : Bool) → (a && true) ≡ a
+and-true true = refl
+and-true false = refl
+
 pub either : (a b : Bool) → (a || b) ≡ true → (a ≡ true) ⊎ (b ≡ true)
 either true b e = inl refl
 either false b e = inr e

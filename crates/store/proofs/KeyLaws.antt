@@ -9,7 +9,7 @@ use native.Mathlib.Omega.{arith}
 use borrow.Author.Tests.{eqb-true, eq-eqb}
 use lib.Dec.{eqb}
 use lib.ListN.{getD}
-use Rattle.rules.proofs.Tests.{by-cases, both, eq?}
+use Rattle.rules.proofs.Tests.{by-cases, both, and-true, eq?}
 use Rattle.model.specs.Lists.{all, from}
 use Rattle.model.specs.Shape.{Shape}
 use Rattle.model.specs.Layout.{toLength, toSerial, serialWords, cardWord}
@@ -17,20 +17,19 @@ use Rattle.model.proofs.Lists.{all-from, from-all}
 use Rattle.store.specs.Cells.{keyAt, sameKey}
 use Rattle.store.specs.Search.{hasKey}
 
-and-true : (a : Bool) → (a && true) ≡ a
-and-true true = refl
-and-true false = refl
-
 -- the words of a key from the k-th on are those of card i
 pub record KeyFrom (sh : Shape) (w : List ℕ) (i : ℕ) (key : List ℕ) (k : ℕ) : Type 0 where
   pub agree : (m : ℕ) → k ≤ m → m < serialWords → cardWord sh w i (m + toSerial) ≡ getD key m 0
 
 module _ (sh : Shape) (w : List ℕ) (i : ℕ) (key : List ℕ) where
+  abbrev wordAgrees : ℕ → Bool
+  wordAgrees k = eqb (cardWord sh w i (k + toSerial)) (getD key k 0)
+
   pub key-differs : (len k : ℕ) → k < serialWords → (cardWord sh w i (k + toSerial) ≡ getD key k 0 → ⊥) → hasKey sh w i len key ≡ false
   unfolding hasKey
   key-differs len k l d =
       by-cases (hasKey sh w i len key)
-      (λ e. absurd (d (eqb-true _ _ (all-from (λ k. eqb (cardWord sh w i (k + toSerial)) (getD key k 0)) 0 serialWords (both (eqb (cardWord sh w i toLength) len) _ e .1) k (omega arith) l))))
+      (λ e. absurd (d (eqb-true _ _ (all-from wordAgrees 0 serialWords (both (eqb (cardWord sh w i toLength) len) _ e .1) k (omega arith) l))))
       (λ e. e)
 
   -- none is left to compare; one more agrees; all agree
@@ -48,7 +47,7 @@ module _ (sh : Shape) (w : List ℕ) (i : ℕ) (key : List ℕ) where
   pub key-agrees : (len k : ℕ) → k ≤ 0 → KeyFrom sh w i key k → hasKey sh w i len key ≡ eqb (cardWord sh w i toLength) len
   unfolding hasKey
   key-agrees len k z q =
-      let t = from-all (λ m. eqb (cardWord sh w i (m + toSerial)) (getD key m 0)) 0 serialWords (λ m l h. eq-eqb _ _ (q .agree m (omega arith) h)) in
+      let t = from-all wordAgrees 0 serialWords (λ m l h. eq-eqb _ _ (q .agree m (omega arith) h)) in
       ap (λ (b : Bool). eqb (cardWord sh w i toLength) len && b) t ∙ and-true (eqb (cardWord sh w i toLength) len)
 
 module _ (sh : Shape) (w : List ℕ) (i j : ℕ) where

@@ -1,13 +1,11 @@
 -- `keys::has_key` meets its contract: the four words are compared from the last to the first, then the length; the loop's invariant is that
 -- the words behind agree.
-use mathlib.Core.Path.{_≡_, sym, _∙_}
+use mathlib.Core.Path.{sym, _∙_}
 use Prim.Native.Nat.{_≤_, _-_}
 use native.Mathlib.Omega.{arith}
 use borrow.Author.Needs.{needs}
-use lib.Dec.{lit<}
-use Rattle.model.specs.Layout.{toLength, serialWords}
+use Rattle.model.specs.Layout.{serialWords}
 use Rattle.store.specs.Cells.{shapeIn}
-use Rattle.store.proofs.CellLaws.{word-in}
 use Rattle.store.proofs.KeyLaws.{KeyFrom, key-differs, key-agrees, from-end, from-word}
 use Rattle.store.proofs.keys.has_key.Statement.{statement}
 use Rattle.store.proofs.keys.has_key.Tie as tie
@@ -21,9 +19,6 @@ abbrev μ-loop : tie.MeasureT-loop
 loop-holds : tie.Need-loop-holds Inv-loop μ-loop
 loop-holds c = (omega arith, from-end _ _ _ _)
 
-card-word-requires : tie.Need-card-word-requires Inv-loop μ-loop
-card-word-requires c κs = search needs
-
 returns : tie.Need-returns Inv-loop μ-loop
 returns c =
     let l = c .before .before .before .loop in
@@ -33,9 +28,6 @@ loop-again : tie.Need-loop-again Inv-loop μ-loop
 loop-again c =
     let l = c .before .before .before .loop in
     (omega arith, from-word _ _ _ _ (l .k) (omega arith) (sym (c .before .card-word .ensures) ∙ c .if1 .left) (l .inv .1))
-
-card-word-requires-2 : tie.Need-card-word-requires-2 Inv-loop μ-loop
-card-word-requires-2 c κs = search needs
 
 returns-2 : tie.Need-returns-2 Inv-loop μ-loop
 returns-2 c =
@@ -51,11 +43,11 @@ has-key-spec =
     loop-holds
     (λ c. omega arith)
     (λ c. omega arith)
-    card-word-requires
+    (λ c κs. search needs)
     (λ c. omega arith)
     (λ c. omega arith)
     returns
     (λ c. omega arith)
     loop-again
-    card-word-requires-2
+    (λ c κs. search needs)
     returns-2)
