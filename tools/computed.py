@@ -56,10 +56,11 @@ def tally(entries=0, withdrawals=0, filings=0, splits=0, contractions=0, compari
 
 
 def words(cards, faults, held, faults_held, free, free_faults, buckets, card_cells, fault_cells):
-    """The words of a table of 16 buckets, from document 01's layout table: cells by number, free chains in order."""
+    """The words of a table of 16 buckets in format 2 with the bounds 4 and 2, from document 01's layout table and
+    request 04: cells by number, free chains in order."""
     chain = lambda cells: dict(zip(cells, cells[1:] + [0]))
-    w = [1, cards, faults, 16, 0, held, faults_held, (free + [0])[0], (free_faults + [0])[0]]
-    w += [16, 32, 288, 288 + 9 * cards, 288 + 9 * cards + 3 * faults, 0, 0]
+    w = [2, cards, faults, 16, 0, held, faults_held, (free + [0])[0], (free_faults + [0])[0]]
+    w += [16, 32, 288, 288 + 9 * cards, 288 + 9 * cards + 3 * faults, 256 * 4 + 2, 0]
     w += [32] + [0] * 15
     w += [buckets.get(b, 0) for b in range(256)]
     for i in range(1, cards + 1):
@@ -69,6 +70,15 @@ def words(cards, faults, held, faults_held, free, free_faults, buckets, card_cel
     return w
 
 
+def in_format_one(w):
+    """The same store in format 1, which has no word for the bounds 4 and 2."""
+    return [1] + w[1:14] + [0] + w[15:]
+
+
+def terms(cards, faults, upper, lower):
+    return "(record { cards = %d; faults = %d; upper = %d; lower = %d })" % (cards, faults, upper, lower)
+
+
 def main():
     modules = unfoldable()
     out = []
@@ -76,6 +86,7 @@ def main():
                "-- Written by tools/computed.py; each claim holds by computation alone. Assumes nothing.\n"
                "use Prim.Native.Nat.{ℕ}\n"
                "use mathlib.Core.Path.{_≡_, refl}\n"
+               "use mathlib.Core.Bool.{true, false}\n"
                "use mathlib.Core.List.{List, [], _∷_, _++_, map}\n"
                "use lib.ListN.{set, replicate}\n"
                + "".join("use %s as %s\n" % (m, short) for m, short, _ in modules))
@@ -84,13 +95,13 @@ def main():
                "open-all : List ℕ → List ℕ\nunfolding %s\nopen-all x = x\n" % everything)
     out.append("tallied : ℕ → ℕ → ℕ → ℕ → ℕ → ℕ → Job.Tally\n"
                "tallied e w f s c k = record { entries = e; withdrawals = w; filings = f; splits = s; contractions = c; comparisons = k }\n")
-    out.append("-- format 1, with 4 and 2\n"
-               "first : ℕ → ℕ → Shape.Shape\n"
-               "first c f = record { format = 1; limit = c; faultLimit = f; upper = 4; lower = 2 }\n")
+    out.append("-- the shape that Open makes with 4 and 2\n"
+               "usual : ℕ → ℕ → Shape.Shape\n"
+               "usual c f = Calls.shapeFor (record { cards = c; faults = f; upper = 4; lower = 2 })\n")
     out.append("-- the answers to a text on a fresh store with these limits, and the tally of a job that begins with none\n"
-               "ran : ℕ → ℕ → List ℕ → Job.Run\nunfolding tallied first\n"
-               "ran c f text = Job.runLines (Text.linesOf text) 16384 (Job.started (Model.fresh (first c f)) (tallied 0 0 0 0 0 0))\n")
-    out.append("answers : ℕ → ℕ → List ℕ → List ℕ\nunfolding open-all ran tallied first\nanswers c f text = ran c f text .text\n")
+               "ran : ℕ → ℕ → List ℕ → Job.Run\nunfolding tallied usual\n"
+               "ran c f text = Job.runLines (Text.linesOf text) 16384 (Job.started (Model.fresh (usual c f)) (tallied 0 0 0 0 0 0))\n")
+    out.append("answers : ℕ → ℕ → List ℕ → List ℕ\nunfolding open-all ran tallied usual\nanswers c f text = ran c f text .text\n")
 
     # the worked job
     out.append(named("worked-in", WORKED))
@@ -105,13 +116,25 @@ def main():
     out.append("-- the words of a fresh store of 8 cards and 8 faults, and after the worked job\n"
                "before : List ℕ\nbefore = %s\n" % numbers(before))
     out.append("after : List ℕ\nafter = %s\n" % numbers(after))
-    out.append(claim("opened", "Calls.openCall (replicate %d 5) (record { cards = 8; faults = 8 })" % len(before),
+    out.append(claim("opened", "Calls.openCall (replicate %d 5) %s" % (len(before), terms(8, 8, 4, 2)),
                      "(record { number = 0; words = before })", "open-all before"))
+    out.append("-- Open refuses by 1, then by 15, then by 2: limits, bounds and length wrong; bounds and length; the length alone\n"
+               + claim("limits-first", "Calls.openCall (5 ∷ []) %s .number" % terms(0, 8, 1, 1), "1", "open-all"))
+    out.append(claim("bounds-next", "Calls.openCall (5 ∷ []) %s .number" % terms(8, 8, 3, 2), "15", "open-all"))
+    out.append(claim("length-last", "Calls.openCall (5 ∷ []) %s .number" % terms(8, 8, 10, 5), "2", "open-all"))
     opened = "open-all tallied worked-in worked-out before after"
     out.append("-- the job on words: scratch of other content, output with room past the bytes written\n"
                + claim("whole", "Job.job before (replicate 400 7) worked-in (replicate 300 1) (%s)" % tally(1, 1, 1, 1, 1, 1),
                        "(record { number = 0; lines = 9; bytes = %d; words = after; out = worked-out ++ replicate %d 1; scratch = replicate 384 0 ++ replicate 16 7; tally = %s })"
                        % (len(WORKED_OUT), 300 - len(WORKED_OUT), tally(3, 2, 2, 1, 1, 11)), opened))
+    out.append("-- the same store in format 1 is sound with word 14 zero alone, and the job leaves it in format 1\n"
+               "first-before : List ℕ\nfirst-before = %s\n" % numbers(in_format_one(before)))
+    out.append("first-after : List ℕ\nfirst-after = %s\n" % numbers(in_format_one(after)))
+    out.append(claim("first-sound", "Layout.sound first-before", "true", "open-all first-before"))
+    out.append(claim("first-with-bounds", "Layout.sound (set first-before 14 1026)", "false", "open-all first-before"))
+    out.append(claim("first-whole", "Job.job first-before (replicate 384 7) worked-in worked-out (%s)" % tally(),
+                     "(record { number = 0; lines = 9; bytes = %d; words = first-after; out = worked-out; scratch = replicate 384 0; tally = %s })"
+                     % (len(WORKED_OUT), tally(2, 1, 1, 0, 0, 10)), "open-all tallied worked-in worked-out first-before first-after"))
     # the third answer does not fit: two lines stand, the fault is not filed
     two = words(8, 8, 2, 0, list(range(3, 9)), list(range(1, 9)), {7: 1},
                 {1: [2, 1, 55 << 24] + [0] * 6, 2: [0, 3, (48 << 24) + (48 << 16) + (55 << 8)] + [0] * 6}, {})
@@ -148,8 +171,8 @@ def main():
     # bucket 7 of a (16, 7) table
     out.append("-- `7`, `07`, `007` in bucket 7 of a (16, 7) table: split to `07` and `7`, `007`, and joined again\n"
                "card : List ℕ → Model.Card\ncard y = record { at = 1; serial = y; faults = [] }\n")
-    out.append("seven : Model.Store\nunfolding card first\n"
-               "seven = record { shape = first 8 8; maxp = 16; p = 7; buckets = set (replicate 23 []) 7 (card %s ∷ card %s ∷ card %s ∷ []); free = []; freeFaults = [] }\n"
+    out.append("seven : Model.Store\nunfolding card usual\n"
+               "seven = record { shape = usual 8 8; maxp = 16; p = 7; buckets = set (replicate 23 []) 7 (card %s ∷ card %s ∷ card %s ∷ []); free = []; freeFaults = [] }\n"
                % tuple(numbers(list(s)) for s in (b"7", b"07", b"007")))
     out.append("serials : Model.Store → ℕ → List (List ℕ)\nserials s b = map (λ c. c .serial) (Model.bucket s b)\n")
     seen = "open-all card seven serials"

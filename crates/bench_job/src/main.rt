@@ -8,6 +8,11 @@ const HEAD: usize = 11;
 
 const REPEAT: u8 = 82;
 
+// The load bounds that the store is opened with.
+const UPPER: u32 = 4;
+
+const LOWER: u32 = 2;
+
 // A frame: its letter, the number in its head, and where its text begins and ends.
 struct Frame {
     kind: u8,
@@ -156,7 +161,7 @@ fn run_frame(
     match kind {
         b'O' => added(
             s,
-            store::open(words, store::MOST_CARDS, store::MOST_FAULTS),
+            store::open(words, store::MOST_CARDS, store::MOST_FAULTS, UPPER, LOWER),
             0,
             0,
         ),

@@ -37,11 +37,13 @@ fn length_for(cards: u32, faults: u32) -> u32 {
 fn open(line: &[u8], words: &mut [u32], lengths: &mut [u32], d: Desk) -> Desk {
     let cards = lines::number_at(line, 1);
     let faults = lines::number_at(line, 2);
+    let upper = lines::number_at(line, 3);
+    let lower = lines::number_at(line, 4);
     let len = length_for(cards, faults);
     let b = lines::least(numbered::next_word(d.run, len) as usize, words.len());
     let a = lines::least(d.run as usize, b);
     lines::put(b":");
-    lines::put_next(store::open(&mut words[a..b], cards, faults));
+    lines::put_next(store::open(&mut words[a..b], cards, faults, upper, lower));
     joined(lengths, len, d)
 }
 

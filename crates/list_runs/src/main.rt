@@ -5,7 +5,8 @@
 //
 //     # TEXT                     a heading
 //     N                          a new run: no words, and no length in the list
-//     O C F                      a store opened with these limits joins the end of the run, and its length the list: Open's number
+//     O C F U L                  a store opened with these limits and bounds joins the end of the run, and its length the list:
+//                                Open's number
 //     C AT N                     a copy of the N words from word AT on joins the run as a store; they may stand behind the run's end
 //     E SERIAL                   Enter in the store that joined last: the number
 //     F SERIAL DAY CODE          File, likewise

@@ -37,7 +37,7 @@ use Rattle.model.proofs.Outcomes.{read-back, open-cases, call-cases, op
 pub kept-call : (w : List ℕ) → sound w ≡ true → (es : List Event) → Kept (decode w) es → (c : Call) → Kept (decode (wordsAfter w c)) (es ++ eventsOf w c)
 kept-call w ok es k (opening t) =
     open-cases w t (λ r. Kept (decode (r .words)) (es ++ cond (eqb (r .number) 0) (opened ∷ []) []))
-    (λ v. rw (append-nil es) k) (λ o v n. rw (append-nil es) k) (λ o v l. rw (read-back (fresh (shapeFor t)) (fair-fresh (shapeFor t) o)) (kept-open es (shapeFor t) o))
+    (λ v. rw (append-nil es) k) (λ v u. rw (append-nil es) k) (λ o v n. rw (append-nil es) k) (λ o v l. rw (read-back (fresh (shapeFor t)) (fair-fresh (shapeFor t) o)) (kept-open es (shapeFor t) o))
 kept-call w ok es k (acting scratch a) =
     call-cases w scratch a ok (λ r. Kept (decode (r .words)) (es ++ (answered a (r .answer .number) (r .answer .faults) ∷ [])))
     (λ h. kept-refused k a 11 0 refl)
@@ -105,21 +105,26 @@ fresh-shape t ok = let s = fresh (shapeFor t) in shape-at (encode s) s (rep-enco
 
 shape-after : (w : List ℕ) → sound w ≡ true → (t : Terms) → shapeOf w ≡ shapeFor t → (c : Call) → shapeOf (wordsAfter w c) ≡ shapeFor (termsAfter w t c)
 shape-after w ok t h (opening u) =
-    open-cases w u (λ r. shapeOf (r .words) ≡ shapeFor (cond (eqb (r .number) 0) u t)) (λ v. h) (λ o v n. h) (λ o v l. fresh-shape u o)
+    open-cases w u (λ r. shapeOf (r .words) ≡ shapeFor (cond (eqb (r .number) 0) u t)) (λ v. h) (λ v b. h) (λ o v n. h) (λ o v l. fresh-shape u o)
 shape-after w ok t h (acting scratch a) = shape-call w ok scratch a ∙ h
 
 shape-run : (w : List ℕ) → sound w ≡ true → (t : Terms) → shapeOf w ≡ shapeFor t → (cs : List Call) → shapeOf (run w cs) ≡ shapeFor (lastTerms w t cs)
 shape-run w ok t h [] = h
 shape-run w ok t h (c ∷ cs) = shape-run (wordsAfter w c) (sound-call w ok c) (termsAfter w t c) (shape-after w ok t h c) cs
 
--- the fault limit in `room` is the one that the last accepted Open was asked for
+-- the store has the limits and the bounds that the last accepted Open was asked for
+pub shape-of-the-last-open : (w : List ℕ) (t : Terms) → openCall w t .number ≡ 0 → (cs : List Call)
+    → decode (run (openCall w t .words) cs) .shape ≡ shapeFor (lastTerms (openCall w t .words) t cs)
+unfolding decodeAs
+shape-of-the-last-open w t e cs =
+    let o = opened-fresh w t e in
+    rw (o .1) (shape-run (encode (fresh (shapeFor t))) (fresh-sound (shapeFor t) (o .0)) t (fresh-shape t (o .0)) cs)
+
+-- so has the fault limit in `room`
 pub limit-of-the-last-open : (w : List ℕ) (t : Terms) → openCall w t .number ≡ 0 → (cs : List Call)
     → decode (run (openCall w t .words) cs) .shape .faultLimit ≡ lastTerms (openCall w t .words) t cs .faults
-unfolding decodeAs shapeFor
-limit-of-the-last-open w t e cs =
-    let o = opened-fresh w t e in
-    let v = encode (fresh (shapeFor t)) in
-    rw (o .1) (ap (λ (sh : Shape). sh .faultLimit) (shape-run v (fresh-sound (shapeFor t) (o .0)) t (fresh-shape t (o .0)) cs))
+unfolding shapeFor
+limit-of-the-last-open w t e cs = ap (λ (sh : Shape). sh .faultLimit) (shape-of-the-last-open w t e cs)
 
 -- demand 2
 
@@ -139,8 +144,9 @@ book-call w ok b a (opening t) =
     let long : length w ≡ lengthFor (b .shape) = rw (a .shape) (sound-is w ok .0 .long) in
     open-cases w t (λ r. AsBook (record { number = r .number; faults = 0; room = [] }) (r .words) (bookOpen b t))
     (λ v. rw v (record { tell = refl; agrees = a }))
-    (λ o v n. rw (v, ne-eqb (lengthFor (b .shape)) (lengthFor sh) (λ e. n (long ∙ e))) (record { tell = refl; agrees = a }))
-    (λ o v l. rw (v, eq-eqb (lengthFor (b .shape)) (lengthFor sh) (sym long ∙ l))
+    (λ v u. rw (v, u) (record { tell = refl; agrees = a }))
+    (λ o v n. rw (v .limits, v .bounds, ne-eqb (lengthFor (b .shape)) (lengthFor sh) (λ e. n (long ∙ e))) (record { tell = refl; agrees = a }))
+    (λ o v l. rw (v .limits, v .bounds, eq-eqb (lengthFor (b .shape)) (lengthFor sh) (sym long ∙ l))
     (record { tell = refl; agrees = rw (read-back (fresh (shapeFor t)) (fair-fresh (shapeFor t) o)) (fresh-agrees (shapeFor t) o) }))
 book-call w ok b a (acting scratch act) =
     call-cases w scratch act ok

@@ -192,10 +192,10 @@ is-load s g =
     (λ e. rw e (le-leb (s .shape .lower * size s) (held s) (g .low (omega (arith, size-least s (g .fair), eqb-false (size s) least e))))))
 
 -- in format 1 a store has at most four cards a bucket, the table with most buckets too: the card limit is four times those
-pub high-four : (s : Store) → Good s → held s ≤ firstUpper * size s
-high-four s g =
+pub high-four : (s : Store) → Good s → s .shape .upper ≡ firstUpper → held s ≤ firstUpper * size s
+high-four s g four =
     let k = shaped (s .shape) (g .fair .shape) in
     by-cases (ltb (size s) (topOf (s .shape)))
     (λ e. let h : held s ≤ s .shape .upper * size s = g .high (ltb-true (size s) (topOf (s .shape)) e) in
-    let u : s .shape .upper * size s ≡ firstUpper * size s = ap (λ (n : ℕ). n * size s) (k .known .1) in omega arith)
+    let u : s .shape .upper * size s ≡ firstUpper * size s = ap (λ (n : ℕ). n * size s) four in omega arith)
     (λ e. omega (arith, ltb-false (size s) (topOf (s .shape)) e, card-count s, g .fair .cells .count, k .most, cards-top (s .shape)))

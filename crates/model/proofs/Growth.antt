@@ -26,7 +26,7 @@ use Rattle.model.specs.Model.{Card, Store, cards, held, size, over, unde
 use Rattle.model.specs.Layout.{goodCard}
 use Rattle.model.proofs.Lists.{same-eq, keep-append, keep-order, keep-keep, all-append, all-imp, all-kept, join-append, getD-set, getD-snoc, getD-front}
 use Rattle.model.proofs.Sums.{total-append, total-set, total-last, total-keep, length-total}
-use Rattle.model.proofs.Shapes.{top-most, Shaped, shaped}
+use Rattle.model.proofs.Shapes.{top-most, BoundsMean, shaped}
 use Rattle.model.proofs.Fair.{one, named, Fair, Good, host-state, faultWeight, cells-moved, faultCells-moved, size-least}
 use Rattle.model.proofs.Look.{look, card-address, card-moved, address-in, elsewhere}
 
@@ -282,8 +282,8 @@ module _ (s : Store) (r : Fair s) where
   shrunk-fair = by-cases (under s) (λ e. rw e (contract-fair s r (contracts-true (s .shape .lower) (held s) (size s) e .1))) (λ e. rw e r)
 
   -- U and L over the buckets: a bucket counts for L at least, and twice L is at most U
-  bounds : Shaped (s .shape)
-  bounds = shaped (s .shape) (r .shape)
+  bounds : BoundsMean (s .shape .upper) (s .shape .lower)
+  bounds = shaped (s .shape) (r .shape) .bounds
 
   halved-load : 2 * (s .shape .lower * size s) ≤ s .shape .upper * size s
   halved-load = let h : size s * (2 * s .shape .lower) ≤ size s * s .shape .upper = mul-le-mul-left (size s) (bounds .half) in omega arith

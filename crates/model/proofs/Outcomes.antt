@@ -1,5 +1,5 @@
 -- A call on words by cases: with short scratch nothing happens, and on sound words the call is the act on the store that the words
--- stand for, written back (`call-cases`); Open by its three answers (`open-cases`). Since the words of a fair store are read back as
+-- stand for, written back (`call-cases`); Open by its four answers (`open-cases`). Since the words of a fair store are read back as
 -- that store (`read-back`), sound words stay sound under every call (`sound-call`) and every run of calls (`sound-run`), and no act changes
 -- the shape that they tell (`shape-call`).
 -- The numbers of a call that come before its act, and those of Open, are given exactly when the rules say (`call-numbers`, `open-numbers`).
@@ -12,10 +12,10 @@ use native.Mathlib.Omega.{arith}
 use lib.Dec.{ltb, eqb}
 use lib.ListN.{length}
 use borrow.Author.Tests.{eqb-true, eqb-false, ltb-true, ltb-false}
-use Rattle.rules.proofs.Tests.{by-cases, not-both}
+use Rattle.rules.proofs.Tests.{by-cases, not-both, all-of}
 use Rattle.model.specs.Model.{Store, fresh}
 use Rattle.model.specs.Shape.{need}
-use Rattle.model.specs.Layout.{limitsOk, formatOk, shapeOk, shapeOf, lengthFor, encode, decodeAs, decode, sound}
+use Rattle.model.specs.Layout.{limitsOk, boundsOk, formatOk, shapeOk, shapeOf, lengthFor, encode, decodeAs, decode, sound}
 use Rattle.model.specs.Calls.{Outcome, Terms, shapeFor, Opened, refused, cleaned, admission, swept, call, openCall}
 use Rattle.model.specs.Runs.{Act, roomOf, perform, Call, Call.opening, Call.acting, outcome, wordsAfter, run}
 use Rattle.model.proofs.Fair.{Fair}
@@ -30,21 +30,30 @@ pub read-back : (s : Store) → Fair s → decode (encode s) ≡ s
 read-back s r = rep-decode (encode s) s (rep-encode s r)
 
 -- terms in range make a shape
-pub terms-ok : (t : Terms) → limitsOk (shapeFor t) ≡ true → shapeOk (shapeFor t) ≡ true
+pub terms-ok : (t : Terms) → limitsOk (shapeFor t) ≡ true → boundsOk (shapeFor t) ≡ true → shapeOk (shapeFor t) ≡ true
 unfolding shapeFor shapeOk formatOk
-terms-ok t l = l
+terms-ok t l b = all-of {a = limitsOk (shapeFor t)} {b = boundsOk (shapeFor t)} l b
+
+-- the terms that Open takes, whatever the length of the words
+pub record InRange (t : Terms) : Type 0 where
+  pub limits : limitsOk (shapeFor t) ≡ true
+  pub bounds : boundsOk (shapeFor t) ≡ true
 
 pub open-cases : (w : List ℕ) (t : Terms) (P : Opened → Type 0)
     → (limitsOk (shapeFor t) ≡ false → P (record { number = 1; words = w }))
-    → (shapeOk (shapeFor t) ≡ true → limitsOk (shapeFor t) ≡ true → (length w ≡ lengthFor (shapeFor t) → ⊥) → P (record { number = 2; words = w }))
-    → (shapeOk (shapeFor t) ≡ true → limitsOk (shapeFor t) ≡ true → length w ≡ lengthFor (shapeFor t) → P (record { number = 0; words = encode (fresh (shapeFor t)) }))
+    → (limitsOk (shapeFor t) ≡ true → boundsOk (shapeFor t) ≡ false → P (record { number = 15; words = w }))
+    → (shapeOk (shapeFor t) ≡ true → InRange t → (length w ≡ lengthFor (shapeFor t) → ⊥) → P (record { number = 2; words = w }))
+    → (shapeOk (shapeFor t) ≡ true → InRange t → length w ≡ lengthFor (shapeFor t) → P (record { number = 0; words = encode (fresh (shapeFor t)) }))
     → P (openCall w t)
 unfolding openCall
-open-cases w t P limits long done =
+open-cases w t P limits bounds long done =
     by-cases (limitsOk (shapeFor t))
-    (λ v. rw v (by-cases (eqb (length w) (lengthFor (shapeFor t)))
-    (λ e. rw e (done (terms-ok t v) v (eqb-true (length w) (lengthFor (shapeFor t)) e)))
-    (λ e. rw e (long (terms-ok t v) v (eqb-false (length w) (lengthFor (shapeFor t)) e)))))
+    (λ v. rw v (by-cases (boundsOk (shapeFor t))
+    (λ u. let within : InRange t = record { limits = v; bounds = u } in
+    rw u (by-cases (eqb (length w) (lengthFor (shapeFor t)))
+    (λ e. rw e (done (terms-ok t v u) within (eqb-true (length w) (lengthFor (shapeFor t)) e)))
+    (λ e. rw e (long (terms-ok t v u) within (eqb-false (length w) (lengthFor (shapeFor t)) e)))))
+    (λ u. rw u (bounds v u))))
     (λ v. rw v (limits v))
 
 -- what is admitted has scratch enough and is sound
@@ -68,11 +77,11 @@ call-cases w scratch a ok P short done =
 -- an accepted Open leaves the words of a fresh store
 pub opened-fresh : (w : List ℕ) (t : Terms) → openCall w t .number ≡ 0 → (shapeOk (shapeFor t) ≡ true) × (openCall w t .words ≡ encode (fresh (shapeFor t)))
 opened-fresh w t = open-cases w t (λ r. r .number ≡ 0 → (shapeOk (shapeFor t) ≡ true) × (r .words ≡ encode (fresh (shapeFor t))))
-    (λ v e. absurd (omega arith)) (λ ok v n e. absurd (omega arith)) (λ ok v l e. (ok, refl))
+    (λ v e. absurd (omega arith)) (λ v u e. absurd (omega arith)) (λ ok v n e. absurd (omega arith)) (λ ok v l e. (ok, refl))
 
 -- every call leaves sound words sound
 pub sound-call : (w : List ℕ) → sound w ≡ true → (c : Call) → sound (wordsAfter w c) ≡ true
-sound-call w ok (opening t) = open-cases w t (λ r. sound (r .words) ≡ true) (λ v. ok) (λ k v n. ok) (λ k v l. fresh-sound (shapeFor t) k)
+sound-call w ok (opening t) = open-cases w t (λ r. sound (r .words) ≡ true) (λ v. ok) (λ v u. ok) (λ k v n. ok) (λ k v l. fresh-sound (shapeFor t) k)
 sound-call w ok (acting scratch a) =
     call-cases w scratch a ok (λ r. sound (r .words) ≡ true) (λ h. ok) (λ h. good-sound (perform (decode w) a .store) (good-act (decode w) (sound-good w ok .0) a))
 
@@ -115,12 +124,34 @@ call-numbers w scratch a =
 
 pub record OpenNumbers (w : List ℕ) (t : Terms) (k : ℕ) : Type 0 where
   pub limits : (k ≡ 1) ↔ (limitsOk (shapeFor t) ≡ false)
-  pub long : (k ≡ 2) ↔ ((limitsOk (shapeFor t) ≡ true) × (length w ≡ lengthFor (shapeFor t) → ⊥))
-  pub done : (k ≡ 0) ↔ ((limitsOk (shapeFor t) ≡ true) × (length w ≡ lengthFor (shapeFor t)))
+  pub bounds : (k ≡ 15) ↔ ((limitsOk (shapeFor t) ≡ true) × (boundsOk (shapeFor t) ≡ false))
+  pub long : (k ≡ 2) ↔ (InRange t × (length w ≡ lengthFor (shapeFor t) → ⊥))
+  pub done : (k ≡ 0) ↔ (InRange t × (length w ≡ lengthFor (shapeFor t)))
 
 pub open-numbers : (w : List ℕ) (t : Terms) → OpenNumbers w t (openCall w t .number)
 open-numbers w t =
     open-cases w t (λ r. OpenNumbers w t (r .number))
-    (λ v. record { limits = hit refl v; long = miss (omega arith) (λ c. not-both (c .0) v); done = miss (omega arith) (λ c. not-both (c .0) v) })
-    (λ ok v n. record { limits = miss (omega arith) (λ c. not-both v c); long = hit refl (v, n); done = miss (omega arith) (λ c. n (c .1)) })
-    (λ ok v l. record { limits = miss (omega arith) (λ c. not-both v c); long = miss (omega arith) (λ c. c .1 l); done = hit refl (v, l) })
+    (λ v. record {
+      limits = hit refl v;
+      bounds = miss (omega arith) (λ c. not-both (c .0) v);
+      long = miss (omega arith) (λ c. not-both (c .0 .limits) v);
+      done = miss (omega arith) (λ c. not-both (c .0 .limits) v);
+    })
+    (λ v u. record {
+      limits = miss (omega arith) (λ c. not-both v c);
+      bounds = hit refl (v, u);
+      long = miss (omega arith) (λ c. not-both (c .0 .bounds) u);
+      done = miss (omega arith) (λ c. not-both (c .0 .bounds) u);
+    })
+    (λ ok v n. record {
+      limits = miss (omega arith) (λ c. not-both (v .limits) c);
+      bounds = miss (omega arith) (λ c. not-both (v .bounds) (c .1));
+      long = hit refl (v, n);
+      done = miss (omega arith) (λ c. n (c .1));
+    })
+    (λ ok v l. record {
+      limits = miss (omega arith) (λ c. not-both (v .limits) c);
+      bounds = miss (omega arith) (λ c. not-both (v .bounds) (c .1));
+      long = miss (omega arith) (λ c. c .1 l);
+      done = hit refl (v, l);
+    })

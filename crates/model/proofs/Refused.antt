@@ -45,7 +45,7 @@ refused-act s g (withdraw bytes n room) =
     withdraw-cases s g bytes n (Leaves s room) room (λ v h. (refl, refl)) (λ v l h. (refl, refl)) (λ v l f h. (refl, refl)) (λ v l f h. absurd (h refl))
 
 pub refused-open : (w : List ℕ) (t : Terms) → (openCall w t .number ≡ 0 → ⊥) → openCall w t .words ≡ w
-refused-open w t = open-cases w t (λ r. (r .number ≡ 0 → ⊥) → r .words ≡ w) (λ v h. refl) (λ o v n h. refl) (λ o v l h. absurd (h refl))
+refused-open w t = open-cases w t (λ r. (r .number ≡ 0 → ⊥) → r .words ≡ w) (λ v h. refl) (λ v u h. refl) (λ o v n h. refl) (λ o v l h. absurd (h refl))
 
 pub refused-call : (w scratch : List ℕ) (a : Act) → (outcome w scratch a .answer .number ≡ 0 → ⊥)
     → (outcome w scratch a .words ≡ w) × (outcome w scratch a .room ≡ roomOf a)

@@ -8,8 +8,8 @@ use Rattle.model.specs.Lists.{byDay}
 use Rattle.model.specs.Shape.{Shape, need}
 use Rattle.model.specs.Serial.{validSerial, validFault}
 use Rattle.model.specs.Model.{Fault, Store, held, faultsHeld, chainFor, found, comparisons, placed, removed, splitScan, contractScan, fresh, entered, filed, historyIn, withdrawn}
-use Rattle.model.specs.Numbers.{badLimits, badLength, notSound, badSerial, badFault, alreadyHeld, notHeld, cardsFull, faultsFull, shortRoom, shortScratch}
-use Rattle.model.specs.Layout.{firstUpper, firstLower, limitsOk, lengthFor, encode, decode, sound, shapeOf}
+use Rattle.model.specs.Numbers.{badLimits, badBounds, badLength, notSound, badSerial, badFault, alreadyHeld, notHeld, cardsFull, faultsFull, shortRoom, shortScratch}
+use Rattle.model.specs.Layout.{limitsOk, boundsOk, lengthFor, encode, decode, sound, shapeOf}
 
 pub record Answer : Type 0 where
   pub number : ℕ
@@ -121,11 +121,13 @@ call step w scratch room =
 pub record Terms : Type 0 where
   pub cards : ℕ
   pub faults : ℕ
+  pub upper : ℕ
+  pub lower : ℕ
 
 unfoldable pub shapeFor : Terms → Shape
-shapeFor t = record { format = 1; limit = t .cards; faultLimit = t .faults; upper = firstUpper; lower = firstLower }
+shapeFor t = record { format = 2; limit = t .cards; faultLimit = t .faults; upper = t .upper; lower = t .lower }
 
--- Open tests 1, then 2
+-- Open tests 1, then 15, then 2
 pub record Opened : Type 0 where
   pub number : ℕ
   pub words : List ℕ
@@ -133,5 +135,6 @@ pub record Opened : Type 0 where
 unfoldable pub openCall : List ℕ → Terms → Opened
 openCall w t =
     cond (not (limitsOk (shapeFor t))) (record { number = badLimits; words = w })
+    (cond (not (boundsOk (shapeFor t))) (record { number = badBounds; words = w })
     (cond (not (eqb (length w) (lengthFor (shapeFor t)))) (record { number = badLength; words = w })
-    (record { number = 0; words = encode (fresh (shapeFor t)) }))
+    (record { number = 0; words = encode (fresh (shapeFor t)) })))

@@ -2,8 +2,8 @@
 -- encoding of a good store.
 use Prim.Native.Nat.{ℕ, zero, suc, _+_, _-_, _*_, _/_, _%_, _^_}
 use mathlib.Core.List.{List, [], _∷_, _++_, map}
-use mathlib.Core.Bool.{Bool, true, false, _&&_, cond}
-use lib.Dec.{ltb, eqb}
+use mathlib.Core.Bool.{Bool, true, false, _&&_, _||_, cond}
+use lib.Dec.{leb, ltb, eqb}
 use lib.ListN.{length, take, getD, replicate}
 use Rattle.rules.specs.Code.{codeOf}
 use Rattle.rules.specs.Table.{stateOk, addressOf, loadFits}
@@ -60,7 +60,7 @@ faultsOffsetAt = 12
 abbrev pub wholeLengthAt : ℕ
 wholeLengthAt = 13
 
--- words 14 and 15: 0, kept for the load bounds and the spelling of serials
+-- words 14 and 15: the load bounds; 0, kept for the spelling of serials
 abbrev pub boundsAt : ℕ
 boundsAt = 14
 
@@ -121,7 +121,17 @@ toCode = 2
 unfoldable pub limitsOk : Shape → Bool
 limitsOk sh = between 1 (mostCards sh) (sh .limit) && between 1 (mostFaults sh) (sh .faultLimit)
 
--- the formats: format 1 means the bounds 4 and 2, and has no word for them
+-- U is 2 to 10, L at least 1 with 2L ≤ U
+abbrev pub leastUpper : ℕ
+leastUpper = 2
+
+abbrev pub mostUpper : ℕ
+mostUpper = 10
+
+unfoldable pub boundsOk : Shape → Bool
+boundsOk sh = between leastUpper mostUpper (sh .upper) && (leb 1 (sh .lower) && leb (2 * sh .lower) (sh .upper))
+
+-- the formats: format 1 means the bounds 4 and 2, and has no word for them; format 2 has any, in word 14
 abbrev pub firstUpper : ℕ
 firstUpper = 4
 
@@ -129,17 +139,28 @@ abbrev pub firstLower : ℕ
 firstLower = 2
 
 unfoldable pub formatOk : Shape → Bool
-formatOk sh = eqb (sh .format) 1 && (eqb (sh .upper) firstUpper && eqb (sh .lower) firstLower)
+formatOk sh = eqb (sh .format) 2 || (eqb (sh .format) 1 && (eqb (sh .upper) firstUpper && eqb (sh .lower) firstLower))
+
+-- word 14: 0 in format 1, else 256 U + L
+abbrev pub upperUnit : ℕ
+upperUnit = 256
 
 unfoldable pub boundsWord : Shape → ℕ
-boundsWord sh = 0
+boundsWord sh = cond (eqb (sh .format) 1) 0 (upperUnit * sh .upper + sh .lower)
 
 unfoldable pub ruleWord : Shape → ℕ
 ruleWord sh = 0
 
 -- the shapes that there are
 unfoldable pub shapeOk : Shape → Bool
-shapeOk sh = formatOk sh && limitsOk sh
+shapeOk sh = formatOk sh && (limitsOk sh && boundsOk sh)
+
+-- the bounds that a format and a word 14 tell
+abbrev pub upperBy : ℕ → ℕ → ℕ
+upperBy format word = cond (eqb format 1) firstUpper (word / upperUnit)
+
+abbrev pub lowerBy : ℕ → ℕ → ℕ
+lowerBy format word = cond (eqb format 1) firstLower (word % upperUnit)
 
 -- the shape that words tell
 unfoldable pub shapeOf : List ℕ → Shape
@@ -148,8 +169,8 @@ shapeOf w =
       format = getD w formatAt 0;
       limit = getD w limitAt 0;
       faultLimit = getD w faultLimitAt 0;
-      upper = firstUpper;
-      lower = firstLower;
+      upper = upperBy (getD w formatAt 0) (getD w boundsAt 0);
+      lower = lowerBy (getD w formatAt 0) (getD w boundsAt 0);
     }
 
 -- cells and chains

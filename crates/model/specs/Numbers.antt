@@ -50,3 +50,7 @@ longText = 13
 -- a report is asked over no store, or over more than eight
 abbrev pub badStores : ℕ
 badStores = 14
+
+-- Open: the load bounds are out of range
+abbrev pub badBounds : ℕ
+badBounds = 15

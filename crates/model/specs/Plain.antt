@@ -8,7 +8,7 @@ use Rattle.model.specs.Lists.{same, keep, total, byDay}
 use Rattle.model.specs.Serial.{validSerial, validFault}
 use Rattle.model.specs.Model.{Fault, Card, Store, cards}
 use Rattle.model.specs.Shape.{Shape}
-use Rattle.model.specs.Layout.{limitsOk, lengthFor}
+use Rattle.model.specs.Layout.{limitsOk, boundsOk, lengthFor}
 use Rattle.model.specs.Calls.{Terms, shapeFor}
 
 -- a fault without its cell
@@ -77,8 +77,9 @@ says k m b room = record { number = k; faults = m; room = room; book = b }
 unfoldable pub bookOpen : Book → Terms → Reply
 bookOpen b t =
     cond (not (limitsOk (shapeFor t))) (says 1 0 b [])
+    (cond (not (boundsOk (shapeFor t))) (says 15 0 b [])
     (cond (not (eqb (lengthFor (b .shape)) (lengthFor (shapeFor t)))) (says 2 0 b [])
-    (says 0 0 (record { shape = shapeFor t; entries = [] }) []))
+    (says 0 0 (record { shape = shapeFor t; entries = [] }) [])))
 
 unfoldable pub bookEnter : Book → List ℕ → ℕ → Reply
 bookEnter b bytes n =

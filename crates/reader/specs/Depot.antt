@@ -20,9 +20,16 @@ depotCards = 256
 abbrev pub depotFaults : ℕ
 depotFaults = 512
 
+-- its load bounds
+abbrev pub depotUpper : ℕ
+depotUpper = 4
+
+abbrev pub depotLower : ℕ
+depotLower = 2
+
 -- what it opens its store with, and the words of that store, fresh
 abbrev pub depotTerms : Terms
-depotTerms = record { cards = depotCards; faults = depotFaults }
+depotTerms = record { cards = depotCards; faults = depotFaults; upper = depotUpper; lower = depotLower }
 
 abbrev pub depotShape : Shape
 depotShape = shapeFor depotTerms

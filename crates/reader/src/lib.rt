@@ -14,10 +14,14 @@ use job::answers;
 use text::decimals;
 use text::letters;
 
-// The limits of the store, C and F.
+// The limits of the store, C and F, and its load bounds, U and L.
 const CARDS: u32 = 256;
 
 const FAULTS: u32 = 512;
+
+const UPPER: u32 = 4;
+
+const LOWER: u32 = 2;
 
 // The words of a store with these limits: 288 + 9 C + 3 F.
 const WORDS: usize = store::CARDS_AT
@@ -41,7 +45,7 @@ fn fresh_store() -> [u32; WORDS]
     ensures { λ r. ⌜ r ≡ opened ⌝ }
 {
     let mut words = [0u32; WORDS];
-    store::open(&mut words, CARDS, FAULTS);
+    store::open(&mut words, CARDS, FAULTS, UPPER, LOWER);
     words
 }
 

@@ -1,6 +1,6 @@
--- A test that is an `and`, by its first part: what early returns in a row leave of it.
+-- A test that is an `and` or an `or`, by its first part: what early returns in a row leave of it.
 use mathlib.Core.Path.{_≡_, sym, ap}
-use mathlib.Core.Bool.{Bool, true, false, _&&_}
+use mathlib.Core.Bool.{Bool, true, false, _&&_, _||_}
 use Prim.Native.Nat.{ℕ, suc, _+_, _-_, _≤_, _<_}
 use native.Mathlib.Omega.{arith}
 use native.Mathlib.Numerals.{add-one}
@@ -12,6 +12,13 @@ and-rest r h = ap (λ (t : Bool). t && r) h
 
 pub and-fails : {a : Bool} (r : Bool) → a ≡ false → (a && r) ≡ false
 and-fails r h = ap (λ (t : Bool). t && r) h
+
+-- the first part of an `or` holds: the whole holds; it fails: the rest decides
+pub or-holds : {a : Bool} (r : Bool) → a ≡ true → (a || r) ≡ true
+or-holds r h = ap (λ (t : Bool). t || r) h
+
+pub or-rest : {a : Bool} (r : Bool) → a ≡ false → (a || r) ≡ r
+or-rest r h = ap (λ (t : Bool). t || r) h
 
 -- f passes at each number from k up to e
 unfoldable pub testFrom : (ℕ → Bool) → ℕ → ℕ → Bool

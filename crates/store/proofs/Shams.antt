@@ -12,8 +12,8 @@ use Rattle.model.specs.Lists.{between}
 use Rattle.model.specs.Serial.{allowed, serialOk, validSerial}
 use Rattle.model.specs.Shape.{Shape, need}
 use Rattle.model.specs.Model.{Store, chainFor, before, fresh}
-use Rattle.model.specs.Layout.{firstLower, firstUpper, formatOk, shapeOk, encode, decode, sound, shapeOf}
-use Rattle.model.specs.Calls.{Answer}
+use Rattle.model.specs.Layout.{leastUpper, shapeOk, encode, decode, sound, shapeOf}
+use Rattle.model.specs.Calls.{Answer, Terms, shapeFor}
 use Rattle.model.specs.Runs.{Act, Act.enter, Act.show, perform, Call, Call.opening, Call.acting, outcome}
 use Rattle.model.specs.Deeds.{tidy}
 use Rattle.model.proofs.Look.{look}
@@ -22,12 +22,12 @@ use Rattle.model.proofs.Sound.{sound-good}
 use Rattle.model.proofs.Fresh.{fair-fresh, fresh-sound}
 use Rattle.model.proofs.Accepted.{fresh-good, fresh-look}
 use Rattle.model.proofs.Numbers.{enter-numbers, show-numbers}
-use Rattle.model.proofs.Outcomes.{read-back, call-cases}
+use Rattle.model.proofs.Outcomes.{terms-ok, read-back, call-cases}
 use Rattle.model.proofs.Deeds.{tidy-long}
 use Rattle.model.proofs.Counts.{serialOf, Searches, scanOf, compared-held, compared-missing, compared-none, scanned-done, scanned-refused}
 use Rattle.model.proofs.Refused.{Changing, done-changes}
 use Rattle.store.specs.Sequences.{Given, Made, Meets, AllMeet}
-use Rattle.model.proofs.Shapes.{limits-fit}
+use Rattle.model.proofs.Shapes.{limits-fit, bounds-fit}
 
 -- a program: what it gives and leaves on any words for any call; and one that meets the contracts
 abbrev pub Program : Type 0
@@ -37,12 +37,15 @@ abbrev pub Honest : Program → Type 0
 Honest p = (w : List ℕ) (c : Call) → Meets w c (p w c)
 
 -- a fresh store of one card and one fault, and the serial `7` as it travels
-one-one : Shape
-one-one = record { format = 1; limit = 1; faultLimit = 1; upper = firstUpper; lower = firstLower }
+abbrev smallest : Terms
+smallest = record { cards = 1; faults = 1; upper = leastUpper; lower = 1 }
+
+abbrev one-one : Shape
+one-one = shapeFor smallest
 
 limits : shapeOk one-one ≡ true
-unfolding one-one shapeOk formatOk
-limits = limits-fit one-one (omega arith) (omega arith) (omega arith) (omega arith)
+unfolding shapeFor
+limits = terms-ok smallest (limits-fit one-one (omega arith) (omega arith) (omega arith) (omega arith)) (bounds-fit one-one (omega arith) (omega arith) (omega arith) (omega arith))
 
 unfoldable seven : List ℕ
 seven = 55 ∷ replicate 15 0
@@ -72,7 +75,7 @@ on-new a =
 
 -- the card is taken in, and shown it is not held
 entered : outcome new lent (enter seven 1) .answer .number ≡ 0
-unfolding fresh one-one
+unfolding fresh shapeFor
 entered =
     on-new (enter seven 1)
     ∙ enter-numbers (fresh one-one) (fresh-good one-one limits) seven 1 .done .1 (seven-valid, fresh-look one-one limits (take 1 seven), omega arith)

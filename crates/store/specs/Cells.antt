@@ -26,8 +26,8 @@ abbrev pub shapeIn : Header → Shape
 shapeIn h = record { format = h .format; limit = h .cards; faultLimit = h .faults; upper = h .upper; lower = h .lower }
 
 -- what Open is asked for
-abbrev pub asked : ℕ → ℕ → Terms
-asked cards faults = record { cards = cards; faults = faults }
+abbrev pub asked : ℕ → ℕ → ℕ → ℕ → Terms
+asked cards faults upper lower = record { cards = cards; faults = faults; upper = upper; lower = lower }
 
 -- the layout of a header in numbers, and that so many words hold it
 pub record Room (w : List ℕ) (h : Header) : Type 0 where

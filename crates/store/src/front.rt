@@ -4,7 +4,7 @@ ghost use mathlib.Core.Bool.{true};
 ghost use Prim.Native.Nat.{_+_, _≤_, _<_};
 ghost use lib.ListN.{length};
 ghost use Rattle.model.specs.Bounds.{farthest};
-ghost use Rattle.model.specs.Layout.{directoryAt};
+ghost use Rattle.model.specs.Layout.{directoryAt, shapeOk, shapeOf};
 ghost use Rattle.store.specs.Cells.{shapeBy, shapeIn, Sized};
 ghost use Rattle.store.specs.Checker.{limitsFit, endsFit, offsetsFit, entryFor, directoryFits, restFits, tableFits, frontFits};
 use crate::header;
@@ -29,7 +29,7 @@ fn limits_fit(w: &[u32]) -> bool
 
 // Words 12 to 15.
 fn ends_fit(w: &[u32], s: Shape) -> bool
-    requires { ⌜ directoryAt ≤ length (now w) ⌝ }
+    requires { ⌜ (directoryAt ≤ length (now w)) × (shapeOk (shapeBy s) ≡ true) ⌝ }
     ensures { λ r. ⌜ r ≡ endsFit (shapeBy s) (now (w .entry)) ⌝ }
 {
     if header::wide_word(w, layout::FAULTS_OFFSET_AT) != layout::faults_at(s) {
@@ -46,7 +46,7 @@ fn ends_fit(w: &[u32], s: Shape) -> bool
 
 // Words 9 to 15.
 fn offsets_fit(w: &[u32]) -> bool
-    requires { ⌜ directoryAt ≤ length (now w) ⌝ }
+    requires { ⌜ (directoryAt ≤ length (now w)) × (shapeOk (shapeOf (now w)) ≡ true) ⌝ }
     ensures { λ r. ⌜ r ≡ offsetsFit (now (w .entry)) ⌝ }
 {
     let s = header::shape_of(w);

@@ -53,12 +53,14 @@ pub fn shape_of(w: &[u32]) -> Shape
     requires { ⌜ directoryAt ≤ length (now w) ⌝ }
     ensures { λ r. ⌜ shapeBy r ≡ shapeOf (now (w .entry)) ⌝ }
 {
+    let format = word(w, layout::FORMAT_AT);
+    let bounds = word(w, layout::BOUNDS_AT);
     Shape {
-        format: word(w, layout::FORMAT_AT),
+        format,
         cards: word(w, layout::LIMIT_AT),
         faults: word(w, layout::FAULT_LIMIT_AT),
-        upper: layout::FIRST_UPPER,
-        lower: layout::FIRST_LOWER,
+        upper: layout::upper_by(format, bounds),
+        lower: layout::lower_by(format, bounds),
     }
 }
 

@@ -1,8 +1,9 @@
 // Layout: counts, offsets, and the lengths and limits of a shape. Each number of it has its name here, once.
 ghost use mathlib.Core.Path.{_≡_};
+ghost use mathlib.Core.Bool.{true};
 ghost use Rattle.model.specs.Lists.{between};
 ghost use Rattle.model.specs.Shape.{topOf, cardWidth, mostCards, mostFaults, need};
-ghost use Rattle.model.specs.Layout.{segmentsAt, cardsAt, faultsAt, lengthFor, limitsOk, formatOk, boundsWord, ruleWord, shapeOk, shapeOf};
+ghost use Rattle.model.specs.Layout.{segmentsAt, cardsAt, faultsAt, lengthFor, limitsOk, boundsOk, formatOk, boundsWord, ruleWord, upperBy, lowerBy, shapeOk, shapeOf};
 ghost use Rattle.model.specs.Calls.{shapeFor};
 ghost use Rattle.store.specs.Cells.{shapeBy, asked};
 
@@ -21,12 +22,21 @@ pub const LIMIT_AT: usize = 1;
 
 pub const FAULT_LIMIT_AT: usize = 2;
 
-// The one format, and its load bounds: above FIRST_UPPER cards a bucket the table grows, below FIRST_LOWER it contracts.
-pub const FORMAT: u32 = 1;
+// Format 1 and its load bounds, for which it has no word: above FIRST_UPPER cards a bucket the table grows, below FIRST_LOWER it contracts.
+const FIRST_FORMAT: u32 = 1;
 
-pub const FIRST_UPPER: u32 = 4;
+const FIRST_UPPER: u32 = 4;
 
-pub const FIRST_LOWER: u32 = 2;
+const FIRST_LOWER: u32 = 2;
+
+// The format that Open makes. Its upper bound is LEAST_UPPER to MOST_UPPER; word 14 has it UPPER_UNIT times, and the lower bound added.
+const FORMAT: u32 = 2;
+
+const LEAST_UPPER: u32 = 2;
+
+const MOST_UPPER: u32 = 10;
+
+const UPPER_UNIT: u32 = 256;
 
 // Words 3 to 6: maxp, p, cards held, faults held.
 pub const MAXP_AT: usize = 3;
@@ -53,7 +63,7 @@ pub const FAULTS_OFFSET_AT: usize = 12;
 
 pub const WHOLE_LENGTH_AT: usize = 13;
 
-// Words 14 and 15: 0, kept for the load bounds and the spelling of serials.
+// Words 14 and 15: the load bounds; 0, kept for the spelling of serials.
 pub const BOUNDS_AT: usize = 14;
 
 pub const RULE_AT: usize = 15;
@@ -116,15 +126,36 @@ pub struct Shape {
 }
 
 // The shape that Open makes.
-pub fn shape_for(cards: u32, faults: u32) -> Shape
-    ensures { λ r. ⌜ shapeBy r ≡ shapeFor (asked cards faults) ⌝ }
+pub fn shape_for(cards: u32, faults: u32, upper: u32, lower: u32) -> Shape
+    ensures { λ r. ⌜ shapeBy r ≡ shapeFor (asked cards faults upper lower) ⌝ }
 {
     Shape {
         format: FORMAT,
         cards,
         faults,
-        upper: FIRST_UPPER,
-        lower: FIRST_LOWER,
+        upper,
+        lower,
+    }
+}
+
+// The bounds that a format and a word 14 tell.
+pub fn upper_by(format: u32, word: u32) -> u32
+    ensures { λ r. ⌜ r ≡ upperBy format word ⌝ }
+{
+    if format == FIRST_FORMAT {
+        FIRST_UPPER
+    } else {
+        word / UPPER_UNIT
+    }
+}
+
+pub fn lower_by(format: u32, word: u32) -> u32
+    ensures { λ r. ⌜ r ≡ lowerBy format word ⌝ }
+{
+    if format == FIRST_FORMAT {
+        FIRST_LOWER
+    } else {
+        word % UPPER_UNIT
     }
 }
 
@@ -135,17 +166,23 @@ pub fn within(lo: u32, hi: u32, x: u32) -> bool
     if lo <= x { x <= hi } else { false }
 }
 
-// Format 1 has the bounds 4 and 2.
+// Format 2 has any bounds, format 1 has 4 and 2.
 fn format_ok(s: Shape) -> bool
     ensures { λ r. ⌜ r ≡ formatOk (shapeBy s) ⌝ }
 {
-    if s.format != FORMAT {
+    let format = s.format;
+    let upper = s.upper;
+    let lower = s.lower;
+    if format == FORMAT {
+        return true;
+    }
+    if format != FIRST_FORMAT {
         return false;
     }
-    if s.upper != FIRST_UPPER {
+    if upper != FIRST_UPPER {
         return false;
     }
-    s.lower == FIRST_LOWER
+    lower == FIRST_LOWER
 }
 
 // The highest limits.
@@ -173,6 +210,18 @@ pub fn limits_ok(s: Shape) -> bool
     within(1, most_faults(s), f)
 }
 
+// U is 2 to 10, L at least 1 and at most the half of U; twice L might not fit a word.
+pub fn bounds_ok(s: Shape) -> bool
+    ensures { λ r. ⌜ r ≡ boundsOk (shapeBy s) ⌝ }
+{
+    let u = s.upper;
+    let l = s.lower;
+    if !within(LEAST_UPPER, MOST_UPPER, u) {
+        return false;
+    }
+    within(1, u / 2, l)
+}
+
 // The bytes of scratch that the checker takes for these words, whatever they hold.
 pub fn need(words: &[u32]) -> usize
     ensures { λ r. ⌜ r ≡ need (shapeOf (now (words .entry))) ⌝ }
@@ -187,7 +236,10 @@ pub fn shape_ok(s: Shape) -> bool
     if !format_ok(s) {
         return false;
     }
-    limits_ok(s)
+    if !limits_ok(s) {
+        return false;
+    }
+    bounds_ok(s)
 }
 
 // The most buckets, and the words of a card cell.
@@ -233,9 +285,17 @@ pub fn length_for(s: Shape) -> usize
 
 // Words 14 and 15.
 pub fn bounds_word(s: Shape) -> u32
+    requires { ⌜ shapeOk (shapeBy s) ≡ true ⌝ }
     ensures { λ r. ⌜ r ≡ boundsWord (shapeBy s) ⌝ }
 {
-    0
+    let format = s.format;
+    let upper = s.upper;
+    let lower = s.lower;
+    if format == FIRST_FORMAT {
+        0
+    } else {
+        UPPER_UNIT * upper + lower
+    }
 }
 
 pub fn rule_word(s: Shape) -> u32

@@ -74,14 +74,18 @@ pub use order::At;
 pub use order::first_card;
 pub use order::next_card;
 
-// Sets a fresh store for C cards and F faults, whatever the words held. Gives 1 where C or F is out of range and 2 where the
-// length is wrong, and then every word stays; else 0.
-pub fn open(words: &mut [u32], cards: u32, faults: u32) -> u32
-    ensures { λ r. ⌜ Opens (openCall (now (words .entry)) (asked cards faults)) r (now (words .exit)) ⌝ }
+// Sets a fresh store for C cards and F faults with the load bounds U and L, whatever the words held: above U cards a bucket the table
+// grows, below L it contracts. Gives 1 where C or F is out of range, then 15 where U or L is, then 2 where the length is wrong, and in
+// all three every word stays; else 0.
+pub fn open(words: &mut [u32], cards: u32, faults: u32, upper: u32, lower: u32) -> u32
+    ensures { λ r. ⌜ Opens (openCall (now (words .entry)) (asked cards faults upper lower)) r (now (words .exit)) ⌝ }
 {
-    let s = layout::shape_for(cards, faults);
+    let s = layout::shape_for(cards, faults, upper, lower);
     if !layout::limits_ok(s) {
         return numbers::BAD_LIMITS;
+    }
+    if !layout::bounds_ok(s) {
+        return numbers::BAD_BOUNDS;
     }
     if words.len() != layout::length_for(s) {
         return numbers::BAD_LENGTH;

@@ -35,3 +35,6 @@ pub const LONG_TEXT: u32 = 13;
 
 // A report is asked over no store, or over more than eight.
 pub const BAD_STORES: u32 = 14;
+
+// Open: the load bounds are out of range.
+pub const BAD_BOUNDS: u32 = 15;

@@ -76,10 +76,12 @@ fn many_calls(line: &[u8], words: &mut [u32], scratch: &mut [u8], room: &mut [u3
 
 // The other lines.
 fn open(line: &[u8], words: &mut [u32]) {
-    let cards = lines::number(lines::second(line));
-    let faults = lines::number(lines::third(line));
+    let cards = lines::number_at(line, 1);
+    let faults = lines::number_at(line, 2);
+    let upper = lines::number_at(line, 3);
+    let lower = lines::number_at(line, 4);
     lines::put(b":");
-    lines::put_next(store::open(words, cards, faults));
+    lines::put_next(store::open(words, cards, faults, upper, lower));
     lines::put(b" words");
     lines::put_next(sums::of_words(words));
 }
@@ -89,6 +91,12 @@ fn put_word(line: &[u8], words: &mut [u32]) {
     if at < words.len() {
         words[at] = lines::number(lines::third(line));
     }
+}
+
+fn tell_word(line: &[u8], words: &[u32]) {
+    let at = lines::number(lines::second(line)) as usize;
+    lines::put(b":");
+    lines::put_next(chains::word(words, at));
 }
 
 // Show for a serial of one byte, whatever it is, and for one of the greatest length.
@@ -130,6 +138,7 @@ fn words_line(line: &[u8], words: &mut [u32]) {
     match lines::letter(line) {
         b'O' => open(line, words),
         b'P' => put_word(line, words),
+        b'V' => tell_word(line, words),
         b'K' => chains::put_chain(words, lines::number(lines::second(line))),
         _ => {}
     }
@@ -138,7 +147,7 @@ fn words_line(line: &[u8], words: &mut [u32]) {
 fn do_line(line: &[u8], words: &mut [u32], scratch: &mut [u8], room: &mut [u32]) {
     match lines::letter(line) {
         b'E' | b'F' | b'S' | b'W' => one_call(line, words, scratch, room),
-        b'e' | b'f' | b's' | b'w' => many_calls(line, words, scratch, room),
+        b'e' | b'f' | b's' | b'w' | b'g' | b'c' => many_calls(line, words, scratch, room),
         b'A' => show_odd(words, scratch, room),
         _ => words_line(line, words),
     }
@@ -148,7 +157,7 @@ fn do_line(line: &[u8], words: &mut [u32], scratch: &mut [u8], room: &mut [u32])
 fn sizes_at(line: &[u8], now: Sizes) -> Sizes {
     match lines::letter(line) {
         b'O' => Sizes {
-            words: lines::number(lines::fourth(line)) as usize,
+            words: lines::number_at(line, 5) as usize,
             scratch: now.scratch,
             room: now.room,
         },

@@ -4,7 +4,7 @@
 // (`reference calls`).
 //
 //     # TEXT                a heading
-//     O C F N               Open on the first N words, which are the store from here on
+//     O C F U L N           Open on the first N words, which are the store from here on
 //     B N                   scratch has N bytes from here on
 //     R N                   the room has N words from here on
 //     E SERIAL              Enter
@@ -12,9 +12,12 @@
 //     S SERIAL              Show
 //     W SERIAL              Withdraw
 //     e, f, s, w N I STEP   N such calls for numbered serials, from number I on by steps; what they leave is printed in one line for 64
+//     g N I STEP            N entries for numbered serials; what they leave is printed in one line for each change of the buckets
+//     c N I STEP            the same for withdrawals
 //     A                     Show for each of the 256 bytes as a serial, and for a serial of the greatest length: the numbers
 //     K B                   the serials of bucket B, in the order of its chain
 //     P AT VALUE            word AT is set to a value
+//     V AT                  the value of word AT
 //
 // In a serial `_` stands for a zero byte, and the bytes behind a `|` are sent but not counted in the length.
 mod asks; // asks.rt: one call: what is asked, what is left, and how that is told

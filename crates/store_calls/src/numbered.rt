@@ -71,10 +71,18 @@ fn len(n: u32) -> usize {
     if n / 8 % 2 == 0 { 8 } else { 16 }
 }
 
-// Calls for numbered serials: e, f, s and w are many of E, F, S and W.
+// Calls for numbered serials: e, f, s and w are many of E, F, S and W; so is g of E, and c of W.
+fn capital(letter: u8) -> u8 {
+    match letter {
+        b'g' => b'E',
+        b'c' => b'W',
+        _ => letter % 32 + 64,
+    }
+}
+
 fn call(letter: u8, n: u32, k: u32) -> Call {
     Call {
-        letter: letter % 32 + 64,
+        letter: capital(letter),
         serial: serial(n),
         len: len(n),
         day: k % 65535 + 1,
@@ -110,6 +118,24 @@ fn report_now(words: &[u32], calls: u32, count: u32, sum: u32) {
     }
 }
 
+// After a call that changed the number of buckets, and with it p, and after the last one.
+fn report_change(words: &[u32], calls: u32, count: u32, sum: u32, p: u32) {
+    if calls == count {
+        report(words, calls, sum);
+        return;
+    }
+    if chains::word(words, 4) != p {
+        report(words, calls, sum);
+    }
+}
+
+fn report_turn(words: &[u32], letter: u8, calls: u32, count: u32, sum: u32, p: u32) {
+    match letter {
+        b'g' | b'c' => report_change(words, calls, count, sum, p),
+        _ => report_now(words, calls, count, sum),
+    }
+}
+
 pub fn many(
     words: &mut [u32],
     scratch: &mut [u8],
@@ -123,9 +149,10 @@ pub fn many(
     let mut sum: u32 = 1;
     let mut k: u32 = 0;
     while k < count {
+        let p = chains::word(words, 4);
         sum = asks::fold(sum, asks::ask(words, scratch, room, call(letter, n, k)));
         n = next(n, step);
         k += 1;
-        report_now(words, k, count, sum);
+        report_turn(words, letter, k, count, sum, p);
     }
 }

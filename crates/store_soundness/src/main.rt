@@ -78,28 +78,64 @@ fn damage_all(words: &mut [u32], from: usize, to: usize)
     }
 }
 
-// Opens a store, and prints the limits, the number and the verdict.
-fn open(words: &mut [u32], cards: u32, faults: u32) {
+// Opens a store, and prints the limits, the bounds, the number and the verdict.
+fn open_with(words: &mut [u32], cards: u32, faults: u32, upper: u32, lower: u32) {
     text(b"open ");
     word(cards);
     text(b" ");
     word(faults);
+    text(b" ");
+    word(upper);
+    text(b" ");
+    word(lower);
     text(b": ");
-    word(store::open(words, cards, faults));
+    word(store::open(words, cards, faults, upper, lower));
     text(b" ");
     judge(words);
     text(b"\n");
 }
 
-// Open refuses limits out of range and a wrong length, and then sets a store. Every word of it is damaged.
-fn smallest(words: &mut [u32])
-    requires { ⌜ length (now words) ≡ 300 ⌝ }
-{
+// The same with the bounds that most stores have.
+fn open(words: &mut [u32], cards: u32, faults: u32) {
+    open_with(words, cards, faults, 4, 2);
+}
+
+// Open refuses limits and bounds out of range and a wrong length, the first that applies, and then sets a store. Every word of it is
+// damaged.
+
+fn refused_limits(words: &mut [u32]) {
     open(words, 0, 1);
     open(words, 1, 0);
     open(words, 1025, 1);
     open(words, 1, 2049);
     open(words, 2, 1);
+}
+
+fn refused_bounds(words: &mut [u32]) {
+    open_with(words, 1, 1, 1, 1);
+    open_with(words, 1, 1, 11, 5);
+    open_with(words, 1, 1, 4, 0);
+    open_with(words, 1, 1, 4, 3);
+}
+
+fn refused_high_bounds(words: &mut [u32]) {
+    open_with(words, 1, 1, 4, 2147483648);
+    open_with(words, 1, 1, 4, 4294967295);
+    open_with(words, 1, 1, 4294967295, 2);
+}
+
+fn refused_in_order(words: &mut [u32]) {
+    open_with(words, 0, 1, 4, 3);
+    open_with(words, 2, 1, 4, 3);
+}
+
+fn smallest(words: &mut [u32])
+    requires { ⌜ length (now words) ≡ 300 ⌝ }
+{
+    refused_limits(words);
+    refused_bounds(words);
+    refused_high_bounds(words);
+    refused_in_order(words);
     open(words, 1, 1);
     damage_all(words, 0, 300);
 }
@@ -323,6 +359,138 @@ fn grown(words: &mut [u32])
     damage_all(words, 288, 315);
 }
 
+// Stores of other bounds, and one of format 1, with cards that calls have entered and withdrawn: serials of two letters.
+
+fn label(k: u32) -> [u8; 16] {
+    let mut out = [0u8; 16];
+    out[0] = (65 + k / 26 % 26) as u8;
+    out[1] = (65 + k % 26) as u8;
+    out
+}
+
+fn enter(words: &mut [u32], k: u32) {
+    let mut scratch = [0u8; 384];
+    store::enter(words, &mut scratch, label(k), 2);
+}
+
+fn enter_all(words: &mut [u32], count: u32) {
+    let mut k: u32 = 0;
+    while k < count {
+        enter(words, k);
+        k += 1;
+    }
+}
+
+fn withdraw(words: &mut [u32], k: u32) {
+    let mut scratch = [0u8; 384];
+    let mut room = [0u32; 2];
+    store::withdraw(words, &mut scratch, label(k), 2, &mut room);
+}
+
+fn withdraw_all(words: &mut [u32], count: u32) {
+    let mut k: u32 = 0;
+    while k < count {
+        withdraw(words, k);
+        k += 1;
+    }
+}
+
+// The verdicts with lower bounds 0 to 6 beside an upper one, and the words else as they are.
+fn judge_lower(words: &mut [u32], upper: u32)
+    requires { ⌜ (upper < 12) × (14 < length (now words)) ⌝ }
+{
+    let mut lower: u32 = 0;
+    while lower < 7 {
+        judge_with(words, 14, 256 * upper + lower);
+        lower += 1;
+    }
+}
+
+// A line for an upper bound.
+fn judge_upper(words: &mut [u32], upper: u32)
+    requires { ⌜ (upper < 12) × (14 < length (now words)) ⌝ }
+{
+    text(b"upper ");
+    word(upper);
+    text(b": ");
+    judge_lower(words, upper);
+    text(b"\n");
+}
+
+fn judge_bounds(words: &mut [u32])
+    requires { ⌜ 14 < length (now words) ⌝ }
+{
+    let mut upper: u32 = 0;
+    while upper < 12 {
+        judge_upper(words, upper);
+        upper += 1;
+    }
+}
+
+// maxp, p, cards held and the verdict; then the header, the directory and the first bucket words damaged, and other bounds.
+fn tell_loaded(words: &mut [u32])
+    requires { ⌜ length (now words) ≡ 5691 ⌝ }
+{
+    text(b"loaded ");
+    word(words[3]);
+    text(b" ");
+    word(words[4]);
+    text(b" ");
+    word(words[5]);
+    text(b": ");
+    judge(words);
+    text(b"\n");
+    damage_all(words, 0, 34);
+    judge_bounds(words);
+}
+
+// 256 buckets with more cards than the upper bound allows.
+fn over(words: &mut [u32])
+    requires { ⌜ length (now words) ≡ 5691 ⌝ }
+{
+    open_with(words, 600, 1, 2, 1);
+    enter_all(words, 515);
+    tell_loaded(words);
+}
+
+// 16 buckets with as many cards as the upper bound allows.
+fn most(words: &mut [u32])
+    requires { ⌜ length (now words) ≡ 5691 ⌝ }
+{
+    open_with(words, 600, 1, 10, 5);
+    enter_all(words, 160);
+    tell_loaded(words);
+}
+
+// 17 buckets with the fewest cards that the lower bound allows.
+fn fewest(words: &mut [u32])
+    requires { ⌜ length (now words) ≡ 5691 ⌝ }
+{
+    open_with(words, 600, 1, 10, 5);
+    enter_all(words, 161);
+    withdraw_all(words, 76);
+    tell_loaded(words);
+}
+
+fn first_format(words: &mut [u32])
+    requires { ⌜ length (now words) ≡ 5691 ⌝ }
+{
+    open(words, 600, 1);
+    put(words, 0, 1);
+    put(words, 14, 0);
+    enter_all(words, 69);
+    tell_loaded(words);
+}
+
+fn loaded(words: &mut [u32])
+    requires { ⌜ length (now words) ≡ 5691 ⌝ }
+{
+    over(words);
+    most(words);
+    fewest(words);
+    first_format(words);
+}
+
 // Whatever the words held before, here ones in every bit.
 fn main() {
     let mut first = [4294967295u32; 300];
@@ -337,4 +505,6 @@ fn main() {
     grown(&mut fifth);
     let mut sixth = [4294967295u32; 15648];
     largest(&mut sixth);
+    let mut seventh = [4294967295u32; 5691];
+    loaded(&mut seventh);
 }

@@ -2,6 +2,7 @@
 use crate::layout::{self, Offsets};
 use crate::lists::{Entry, Limits, Store};
 use crate::operations::{self, Answer, Operation, Outcome};
+use crate::rules::Bounds;
 use crate::serial::{Serial, WIDTH};
 use crate::sound;
 
@@ -9,15 +10,18 @@ use crate::sound;
 pub const SCRATCH: usize = 384;
 
 /// Sets a fresh store.
-pub fn open(words: &mut [u32], cards: u32, faults: u32) -> u32 {
-    let limits = Limits { cards, faults };
+pub fn open(words: &mut [u32], cards: u32, faults: u32, upper: u32, lower: u32) -> u32 {
+    let (limits, bounds) = (Limits { cards, faults }, Bounds { upper, lower });
     if !limits.in_range() {
         return 1;
+    }
+    if !bounds.in_range() {
+        return 15;
     }
     if words.len() != Offsets::of(limits).end {
         return 2;
     }
-    words.copy_from_slice(&layout::encode(&Store::fresh(limits)));
+    words.copy_from_slice(&layout::encode(&Store::fresh(limits, bounds)));
     0
 }
 

@@ -3,19 +3,24 @@
 use crate::calls::{self, SCRATCH};
 use crate::layout;
 use crate::lists::{Limits, Store};
+use crate::rules::Bounds;
 use crate::serial::Serial;
 use crate::sound::sound;
 use std::ops::Range;
 
 pub fn report() -> String {
-    [smallest(), lengths(), small(), in_use(), grown(), largest()].concat().concat()
+    [smallest(), lengths(), small(), in_use(), grown(), largest(), loaded()].concat().concat()
 }
 
 fn smallest() -> Vec<String> {
     let mut words = vec![u32::MAX; 300];
-    let limits = [(0, 1), (1, 0), (1_025, 1), (1, 2_049), (2, 1), (1, 1)];
-    let opened = limits.map(|(cards, faults)| open(&mut words, cards, faults));
-    [&opened[..], &damaged(&words, 0..300)].concat()
+    let limits = [(0, 1), (1, 0), (1_025, 1), (1, 2_049), (2, 1)];
+    let refused = limits.map(|(cards, faults)| open(&mut words, cards, faults));
+    let bounds = [(1, 1), (11, 5), (4, 0), (4, 3), (4, 1 << 31), (4, u32::MAX), (u32::MAX, 2)];
+    let refused_too = bounds.map(|(upper, lower)| open_with(&mut words, 1, 1, upper, lower));
+    let orders = [(0, 1), (2, 1)].map(|(cards, faults)| open_with(&mut words, cards, faults, 4, 3));
+    let opened = open(&mut words, 1, 1);
+    [&refused[..], &refused_too, &orders, &[opened], &damaged(&words, 0..300)].concat()
 }
 
 fn lengths() -> Vec<String> {
@@ -67,7 +72,7 @@ fn in_use() -> Vec<String> {
 fn grown() -> Vec<String> {
     let mut words = vec![u32::MAX; 651];
     let opened = open(&mut words, 40, 1);
-    let mut store = Store::fresh(Limits { cards: 40, faults: 1 });
+    let mut store = Store::fresh(Limits { cards: 40, faults: 1 }, Bounds::USUAL);
     store.state = store.state.grown();
     store.buckets.push(Vec::new());
     for byte in (b'0'..=b'9').chain(b'A'..=b'X') {
@@ -78,6 +83,33 @@ fn grown() -> Vec<String> {
     let words = layout::encode(&store);
     let now = format!("grown: {}\n", verdict(&words));
     [&[opened, now][..], &damaged(&words, 0..54), &damaged(&words, 288..315)].concat()
+}
+
+/// A store of 256 buckets with more cards than its upper bound allows; one of 16 buckets with as many as it allows; one of 17 with the
+/// fewest that its lower bound allows; and one of format 1.
+fn loaded() -> Vec<String> {
+    let over = loaded_with(2, 1, |reader| reader.enter_numbered(515));
+    let most = loaded_with(10, 5, |reader| reader.enter_numbered(160));
+    let fewest = loaded_with(10, 5, |reader| {
+        reader.enter_numbered(161);
+        reader.withdraw_numbered(76);
+    });
+    let first_format = loaded_with(4, 2, |reader| {
+        (reader.words[0], reader.words[14]) = (1, 0);
+        reader.enter_numbered(69);
+    });
+    [over, most, fewest, first_format].concat()
+}
+
+/// How the store was opened and has grown; its header, its directory and its first bucket words damaged; and other bounds for it.
+fn loaded_with(upper: u32, lower: u32, filled: fn(&mut Reader)) -> Vec<String> {
+    let mut words = vec![u32::MAX; 5_691];
+    let opened = open_with(&mut words, 600, 1, upper, lower);
+    let mut reader = Reader { words };
+    filled(&mut reader);
+    let words = reader.words;
+    let now = format!("loaded {} {} {}: {}\n", words[3], words[4], words[5], verdict(&words));
+    [&[opened, now][..], &damaged(&words, 0..34), &other_bounds(&words)].concat()
 }
 
 // ---- the calls, each of which has to be done
@@ -94,6 +126,14 @@ impl Reader {
         }
     }
 
+    fn enter_numbered(&mut self, count: u32) {
+        (0..count).for_each(|k| self.enter(&[&numbered(k)]));
+    }
+
+    fn withdraw_numbered(&mut self, count: u32) {
+        (0..count).for_each(|k| self.withdraw(&numbered(k)));
+    }
+
     fn file(&mut self, label: &str, day: u32, code: u32) {
         let (bytes, length) = sent(label);
         let answer = calls::file(&mut self.words, &mut [0; SCRATCH], bytes, length, day, code);
@@ -107,6 +147,11 @@ impl Reader {
     }
 }
 
+/// Two letters.
+fn numbered(k: u32) -> String {
+    [k / 26, k % 26].map(|letter| char::from(b'A' + letter as u8)).iter().collect()
+}
+
 fn sent(label: &str) -> ([u8; 16], usize) {
     (Serial::new(label.as_bytes()).expect("a serial").padded(), label.len())
 }
@@ -117,10 +162,15 @@ fn verdict(words: &[u32]) -> u32 {
     u32::from(sound(words))
 }
 
-/// The limits, the number of Open and the verdict.
+/// Opened with the bounds 4 and 2.
 fn open(words: &mut [u32], cards: u32, faults: u32) -> String {
-    let number = calls::open(words, cards, faults);
-    format!("open {cards} {faults}: {number} {}\n", verdict(words))
+    open_with(words, cards, faults, 4, 2)
+}
+
+/// The limits and the bounds, the number of Open and the verdict.
+fn open_with(words: &mut [u32], cards: u32, faults: u32, upper: u32, lower: u32) -> String {
+    let number = calls::open(words, cards, faults, upper, lower);
+    format!("open {cards} {faults} {upper} {lower}: {number} {}\n", verdict(words))
 }
 
 /// A line for each place: the place, the value there, and a verdict for each other value put there.
@@ -136,6 +186,14 @@ fn verdicts(words: &[u32], at: usize) -> String {
 fn values(was: u32) -> impl Iterator<Item = u32> {
     let near = [was.wrapping_add(1), was.wrapping_sub(1), was.wrapping_add(16 << 24)];
     near.into_iter().chain(0..=6).chain([u32::MAX])
+}
+
+/// A line for each upper bound up to 11: the verdicts with lower bounds 0 to 6, and the words else as they are.
+fn other_bounds(words: &[u32]) -> Vec<String> {
+    let judged = |bounds: u32| verdict(&with(words, 14, bounds)).to_string();
+    let line =
+        |upper: u32| format!("upper {upper}: {}\n", (0..=6).map(|l| judged(256 * upper + l)).collect::<String>());
+    (0..=11).map(line).collect()
 }
 
 fn with(words: &[u32], at: usize, value: u32) -> Vec<u32> {

@@ -3,6 +3,7 @@ use crate::calls;
 use crate::layout::{self, Offsets};
 use crate::lists::{Entry, Limits, Store};
 use crate::operations::{self, Operation, Outcome};
+use crate::rules::Bounds;
 use crate::serial::Serial;
 use crate::sound;
 
@@ -142,7 +143,8 @@ fn add(count: &mut u64, more: u64) {
 pub fn depot(input: &[u8]) -> Vec<u8> {
     let limits = Limits { cards: 256, faults: 512 };
     let mut words = vec![0; Offsets::of(limits).end];
-    calls::open(&mut words, limits.cards, limits.faults);
+    let Bounds { upper, lower } = Bounds::USUAL;
+    calls::open(&mut words, limits.cards, limits.faults, upper, lower);
     let mut out = vec![0; 16_384];
     let done = run(&mut words, &mut [0; calls::SCRATCH], input, &mut out, &mut Tally::default());
     out.truncate(done.bytes as usize);

@@ -1,8 +1,8 @@
 //! The words of a store. Each part is written whole, and the store is the parts one behind another.
-use crate::lists::{Card, Limits, Store};
+use crate::lists::{Card, Format, Limits, Store};
+use crate::rules::Bounds;
 use std::iter;
 
-pub const FORMAT: u32 = 1;
 pub const HEADER_WORDS: usize = 16;
 pub const SEGMENTS: usize = 16;
 pub const SEGMENT_WORDS: usize = 16;
@@ -36,18 +36,35 @@ impl Offsets {
     }
 }
 
+impl Format {
+    /// The format word, and word 14.
+    pub fn words(self) -> [u32; 2] {
+        match self {
+            Format::One => [1, 0],
+            Format::Two(bounds) => [2, 256 * bounds.upper + bounds.lower],
+        }
+    }
+
+    /// The one format that has these two words, if there is any.
+    pub fn read(words: [u32; 2]) -> Option<Format> {
+        let mut known = iter::once(Format::One).chain(Bounds::all().map(Format::Two));
+        known.find(|format| format.words() == words)
+    }
+}
+
 /// The words of a store.
 pub fn encode(store: &Store) -> Vec<u32> {
     [header(store), directory(store.buckets.len()), segments(store), card_cells(store), fault_cells(store)].concat()
 }
 
 fn header(store: &Store) -> Vec<u32> {
-    let limits = [FORMAT, store.limits.cards, store.limits.faults];
+    let [format, bounds] = store.format.words();
+    let limits = [format, store.limits.cards, store.limits.faults];
     let state = [store.state.maxp, store.state.p];
     let held = [store.cards_held() as u32, store.faults_held() as u32];
     let free = [first(&store.free_cards), first(&store.free_faults)];
     let offsets = Offsets::of(store.limits).words();
-    [&limits[..], &state, &held, &free, &offsets, &[0, 0]].concat()
+    [&limits[..], &state, &held, &free, &offsets, &[bounds, 0]].concat()
 }
 
 /// The directory of a table with this many buckets: a segment is in use when its first bucket is there.

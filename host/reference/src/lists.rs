@@ -1,5 +1,5 @@
 //! A store as lists, and the steps that change it. A step here is taken only where the operation is accepted.
-use crate::rules::{self, State};
+use crate::rules::{self, Bounds, State};
 use crate::serial::Serial;
 use std::mem;
 
@@ -13,6 +13,22 @@ pub struct Limits {
 impl Limits {
     pub fn in_range(self) -> bool {
         (1..=1_024).contains(&self.cards) && (1..=2_048).contains(&self.faults)
+    }
+}
+
+/// The format of a store, which no call changes. The first one has no bounds of its own.
+#[derive(Clone, Copy, Debug, PartialEq, Eq)]
+pub enum Format {
+    One,
+    Two(Bounds),
+}
+
+impl Format {
+    pub fn bounds(self) -> Bounds {
+        match self {
+            Format::One => Bounds::USUAL,
+            Format::Two(bounds) => bounds,
+        }
     }
 }
 
@@ -57,6 +73,7 @@ impl Card {
 /// Buckets are lists of cards in the order of their chains; free cells stand in the order in which they will be taken.
 #[derive(Clone, Debug, PartialEq, Eq)]
 pub struct Store {
+    pub format: Format,
     pub limits: Limits,
     pub state: State,
     pub buckets: Vec<Vec<Card>>,
@@ -73,8 +90,10 @@ pub struct Search {
 }
 
 impl Store {
-    pub fn fresh(limits: Limits) -> Store {
+    /// A store as Open makes it, of format 2 whatever its bounds.
+    pub fn fresh(limits: Limits, bounds: Bounds) -> Store {
         Store {
+            format: Format::Two(bounds),
             limits,
             state: State::FRESH,
             buckets: vec![Vec::new(); State::FRESH.buckets() as usize],
@@ -130,7 +149,7 @@ impl Store {
 
     /// One split, if the load calls for it. Gives how many cards were scanned.
     pub fn grow(&mut self) -> usize {
-        if !rules::splits(self.cards_held(), self.state) {
+        if !rules::splits(self.cards_held(), self.state, self.format.bounds()) {
             return 0;
         }
         let before = self.state;
@@ -145,7 +164,7 @@ impl Store {
 
     /// One contraction, if the load calls for it. Gives how many cards were scanned.
     pub fn shrink(&mut self) -> usize {
-        if !rules::contracts(self.cards_held(), self.state) {
+        if !rules::contracts(self.cards_held(), self.state, self.format.bounds()) {
             return 0;
         }
         self.state = self.state.shrunk();

@@ -93,12 +93,33 @@ pub fn moves(code: u32, state: State) -> bool {
     code % (2 * state.maxp) == state.maxp + state.p
 }
 
-/// Whether n cards are too many for the buckets of this state.
-pub fn splits(n: usize, state: State) -> bool {
-    n > 4 * state.buckets() as usize
+/// The load that a store keeps to, in cards a bucket.
+#[derive(Clone, Copy, Debug, PartialEq, Eq)]
+pub struct Bounds {
+    pub upper: u32,
+    pub lower: u32,
+}
+
+impl Bounds {
+    /// Those of format 1, and of every store that `depot` opens.
+    pub const USUAL: Bounds = Bounds { upper: 4, lower: 2 };
+
+    /// Every pair that a store may have: the upper bound is 2 to 10, the lower one at least 1 and at most half of it.
+    pub fn all() -> impl Iterator<Item = Bounds> {
+        (2..=10).flat_map(|upper| (1..=upper / 2).map(move |lower| Bounds { upper, lower }))
+    }
+
+    pub fn in_range(self) -> bool {
+        Bounds::all().any(|known| known == self)
+    }
+}
+
+/// Whether n cards are too many for the buckets of this state. The greatest table takes any number and never splits.
+pub fn splits(n: usize, state: State, bounds: Bounds) -> bool {
+    n > (bounds.upper * state.buckets()) as usize && state.buckets() < MOST_BUCKETS
 }
 
 /// Whether n cards are too few for the buckets of this state. The least table never contracts.
-pub fn contracts(n: usize, state: State) -> bool {
-    n < 2 * state.buckets() as usize && state.buckets() > LEAST_BUCKETS
+pub fn contracts(n: usize, state: State, bounds: Bounds) -> bool {
+    n < (bounds.lower * state.buckets()) as usize && state.buckets() > LEAST_BUCKETS
 }

@@ -66,9 +66,9 @@ impl Desk {
                 (self.run, self.last) = (0, 0);
                 self.lengths.clear();
             }
-            ("O", &[cards, faults]) => {
+            ("O", &[cards, faults, upper, lower]) => {
                 self.join(Offsets::of(Limits { cards, faults }).end);
-                return format!(": {}", calls::open(self.store(), cards, faults));
+                return format!(": {}", calls::open(self.store(), cards, faults, upper, lower));
             }
             ("C", &[at, count]) => {
                 let (at, count) = (at as usize, count as usize);

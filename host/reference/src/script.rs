@@ -41,7 +41,9 @@ impl Desk {
     fn told(&mut self, line: &str) -> String {
         let fields: Vec<&str> = line.split(' ').collect();
         match fields[..] {
-            ["O", cards, faults, length] => self.open(number(cards), number(faults), number(length)),
+            ["O", cards, faults, upper, lower, length] => {
+                self.open([cards, faults, upper, lower].map(number), number(length))
+            }
             ["B", size] => {
                 self.scratch = number(size) as usize;
                 String::new()
@@ -54,12 +56,18 @@ impl Desk {
                 self.store()[number(at) as usize] = number(value);
                 String::new()
             }
+            ["V", at] => format!(": {}", self.store()[number(at) as usize]),
             ["K", bucket] => self.chain(number(bucket) as usize),
             ["A"] => self.bytes(),
             [letter @ ("E" | "S" | "W"), serial] => self.call(letter, serial, 0, 0),
             ["F", serial, day, code] => self.call("F", serial, number(day), number(code)),
             [letter @ ("e" | "f" | "s" | "w"), count, from, step] => {
-                self.many(&letter.to_uppercase(), number(count), number(from), number(step))
+                let every_64 = |made: u32, _| made % 64 == 0;
+                self.many(&letter.to_uppercase(), [count, from, step].map(number), every_64)
+            }
+            [letter @ ("g" | "c"), count, from, step] => {
+                let call = if letter == "g" { "E" } else { "W" };
+                self.many(call, [count, from, step].map(number), |_, other_buckets| other_buckets)
             }
             _ => String::new(),
         }
@@ -69,9 +77,13 @@ impl Desk {
         &mut self.words[..self.store]
     }
 
-    fn open(&mut self, cards: u32, faults: u32, length: u32) -> String {
+    fn buckets(&self) -> u32 {
+        self.words[3] + self.words[4]
+    }
+
+    fn open(&mut self, [cards, faults, upper, lower]: [u32; 4], length: u32) -> String {
         self.store = length as usize;
-        let answer = calls::open(self.store(), cards, faults);
+        let answer = calls::open(self.store(), cards, faults, upper, lower);
         format!(": {answer} words {}", checksum(self.store()))
     }
 
@@ -105,18 +117,20 @@ impl Desk {
         format!(": {number} {comparisons} {scanned} {faults} words {}{room} scratch {}", left.words, left.scratch)
     }
 
-    /// Calls for numbered serials, of which there are 1,024. A line tells of each 64 calls, and of the last one.
-    fn many(&mut self, letter: &str, count: u32, from: u32, step: u32) -> String {
+    /// Calls for numbered serials, of which there are 1,024. A line tells of the last call, and of those that `is_told` asks for by how
+    /// many were made and whether the number of buckets is another after it.
+    fn many(&mut self, letter: &str, [count, from, step]: [u32; 3], is_told: impl Fn(u32, bool) -> bool) -> String {
         let mut lines = String::new();
         let mut sum = 1;
         for made in 1..=count {
             let n = (from + (made - 1) * step) % 1_024;
             let (serial, length) = sent(&numbered(n));
+            let buckets = self.buckets();
             let left = self.ask(&Call { letter, serial, length, day: made, code: n + 1 });
             let Answer { number, comparisons, scanned, faults } = left.answer;
             let all = [number, comparisons, scanned, faults, left.words, left.room, left.scratch];
             sum = all.into_iter().fold(sum, mix);
-            if made % 64 == 0 || made == count {
+            if made == count || is_told(made, self.buckets() != buckets) {
                 let held: String = self.words[3..7].iter().map(|word| format!(" {word}")).collect();
                 lines += &format!("\n{made} calls:{held} sum {sum}");
             }

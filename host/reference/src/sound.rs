@@ -1,10 +1,10 @@
-//! Whether any words at all are a sound store, clause by clause as document 01 has them, and the lists that sound words stand for.
+//! Whether any words at all are a sound store, clause by clause as documents 01 and 02 have them, and the lists that sound words stand for.
 //!
 //! Chains are not followed to find out whether they are chains. First all the words that point to a cell are gathered: every cell
 //! must be pointed to exactly once. From then on a walk from a head cannot come back to a cell it has passed, and the cells that no
 //! walk reaches can only stand in rings.
-use crate::layout::{self, Offsets, CARD_WORDS, FAULT_WORDS, FORMAT};
-use crate::lists::{Card, Entry, Fault, Limits, Store};
+use crate::layout::{self, Offsets, CARD_WORDS, FAULT_WORDS};
+use crate::lists::{Card, Entry, Fault, Format, Limits, Store};
 use crate::rules::{self, State};
 use crate::serial::Serial;
 
@@ -34,6 +34,7 @@ fn all(clauses: &[bool]) -> Option<()> {
 // ---- the header and the directory
 
 struct Header {
+    format: Format,
     limits: Limits,
     offsets: Offsets,
     state: State,
@@ -45,15 +46,16 @@ struct Header {
 
 fn header(words: &[u32]) -> Option<Header> {
     let limits = Limits { cards: *words.get(1)?, faults: *words.get(2)? };
-    all(&[words[0] == FORMAT, limits.in_range()])?;
+    all(&[limits.in_range()])?;
     let offsets = Offsets::of(limits);
     all(&[words.len() == offsets.end])?;
-    all(&[words[9..14] == offsets.words(), words[14..16] == [0, 0]])?;
+    let format = Format::read([words[0], words[14]])?;
+    all(&[words[9..14] == offsets.words(), words[15] == 0])?;
     let state = State { maxp: words[3], p: words[4] };
     all(&[rules::states().any(|known| known == state)])?;
     all(&[words[offsets.directory..offsets.segments] == layout::directory(state.buckets() as usize)])?;
     let (cards, faults, free_card, free_fault) = (words[5], words[6], words[7], words[8]);
-    Some(Header { limits, offsets, state, cards, faults, free_card, free_fault })
+    Some(Header { format, limits, offsets, state, cards, faults, free_card, free_fault })
 }
 
 // ---- cells and chains
@@ -133,7 +135,8 @@ fn lists(words: &[u32], header: &Header) -> Option<Store> {
     let mut histories = histories.iter();
     let mut card = |&cell: &u32| read_card(cell, card_pool.cell(cell), histories.next()?, &fault_pool);
     let buckets = chains.iter().map(|chain| chain.iter().map(&mut card).collect()).collect::<Option<_>>()?;
-    Some(Store { limits: header.limits, state: header.state, buckets, free_cards, free_faults })
+    let Header { format, limits, state, .. } = *header;
+    Some(Store { format, limits, state, buckets, free_cards, free_faults })
 }
 
 /// A held card from its words and its chain of fault cells: a valid serial, a true last fault and count, valid faults.
@@ -153,8 +156,8 @@ fn read_fault(cell: u32, words: &[u32]) -> Option<Fault> {
 // ---- clauses about the whole
 
 fn load_fits(store: &Store) -> bool {
-    let n = store.cards_held();
-    !rules::splits(n, store.state) && !rules::contracts(n, store.state)
+    let (n, bounds) = (store.cards_held(), store.format.bounds());
+    !rules::splits(n, store.state, bounds) && !rules::contracts(n, store.state, bounds)
 }
 
 fn each_card_at_home(store: &Store) -> bool {

@@ -153,8 +153,9 @@ fn random_call(random: &mut Random, serials: usize, leaning: usize) -> Call {
 /// The calls in one wave of entries or of withdrawals: so many that the table grows and contracts.
 const WAVE: usize = 1_000;
 
-fn random_calls(random: &mut Random, serials: usize, count: usize) -> Vec<Call> {
-    (0..count).map(|k| random_call(random, serials, if k / WAVE % 2 == 0 { 5 } else { 0 })).collect()
+/// So many calls, by turns a wave of entries and one of withdrawals.
+fn random_calls(random: &mut Random, serials: usize, count: usize, wave: usize) -> Vec<Call> {
+    (0..count).map(|k| random_call(random, serials, if k / wave % 2 == 0 { 5 } else { 0 })).collect()
 }
 
 fn serial_of(call: &Call) -> &str {
@@ -192,21 +193,42 @@ fn histories(store: &Store) -> Vec<Plain> {
     all
 }
 
-/// What random calls have met: splits, contractions, and listings in another order than the faults were filed in.
+/// The buckets that there must be after a call with this number: an entry that was done may add one, a withdrawal may take one.
+fn buckets_after(before: &Store, call: &Call, number: u32, (upper, lower): (usize, usize)) -> usize {
+    let (n, buckets) = (before.cards_held(), before.buckets.len());
+    match call {
+        Call::Enter(_) if number == 0 && n + 1 > upper * buckets && buckets != 256 => buckets + 1,
+        Call::Withdraw(_) if number == 0 && n - 1 < lower * buckets && buckets != 16 => buckets - 1,
+        _ => buckets,
+    }
+}
+
+/// The words of the header that no call changes: format, limits, offsets and what stands behind them.
+fn lasting(words: &[u32]) -> Vec<u32> {
+    [&words[0..3], &words[9..16]].concat()
+}
+
+/// What random calls have met: splits, contractions, calls on 256 buckets with more cards than the upper bound allows, and listings in
+/// another order than the faults were filed in.
 #[derive(Default)]
 struct Met {
     splits: usize,
     contractions: usize,
+    over: usize,
     reordered: usize,
 }
 
-/// Runs random calls on a fresh store, and holds each to the book and to the chains.
+/// Runs random calls on a fresh store with the bounds 4 and 2, and holds each to the book and to the chains.
 fn hold_to_the_book(cards: u32, faults: u32, serials: usize, count: usize, seed: u64) -> Met {
-    let mut random = Random::new(seed);
-    let mut reader = Reader::open(cards, faults);
-    let mut book = Book::new(cards, faults);
+    let calls = random_calls(&mut Random::new(seed), serials, count, WAVE);
+    hold_calls_to_the_book(Reader::open(cards, faults), (4, 2), calls)
+}
+
+/// The same with these calls, on a fresh store with these bounds.
+fn hold_calls_to_the_book(mut reader: Reader, bounds: (usize, usize), calls: Vec<Call>) -> Met {
+    let mut book = Book::new(reader.words[1], reader.words[2]);
     let mut met = Met::default();
-    for call in random_calls(&mut random, serials, count) {
+    for call in calls {
         let (words, before) = (reader.words.clone(), reader.lists());
         let serial = serial_of(&call);
         let filed = book.find(serial).map_or(vec![], |card| card.1.clone());
@@ -222,9 +244,12 @@ fn hold_to_the_book(cards: u32, faults: u32, serials: usize, count: usize, seed:
         assert!(number == 0 || reader.words == words, "{call:?} is refused and changes the store");
         assert_eq!(histories(&after), book.sorted(), "{call:?}");
         assert_eq!(book.accepted - book.gone, after.faults_held(), "{call:?}");
+        assert_eq!(after.buckets.len(), buckets_after(&before, &call, number, bounds), "{call:?}");
+        assert_eq!(lasting(&reader.words), lasting(&words), "{call:?}");
 
         met.splits += usize::from(after.buckets.len() > before.buckets.len());
         met.contractions += usize::from(after.buckets.len() < before.buckets.len());
+        met.over += usize::from(after.cards_held() > bounds.0 * after.buckets.len());
         met.reordered += usize::from(!listed.is_empty() && listed != filed);
     }
     met
@@ -254,6 +279,40 @@ fn stores_that_grow_and_contract() {
     }
 }
 
+/// Every pair of bounds, and a store of format 1 beside every third of them.
+#[test]
+fn stores_of_any_bounds() {
+    const SHORT_WAVE: usize = 500;
+    let calls = |serials, seed| random_calls(&mut Random::new(seed), serials, 2 * SHORT_WAVE, SHORT_WAVE);
+    let pairs = (2..=10).flat_map(|upper| (1..=upper / 2).map(move |lower| (upper, lower)));
+    let (mut splits, mut contractions) = (0, 0);
+    for (seed, (upper, lower)) in (301..).zip(pairs) {
+        let (cards, bounds) = (20 * upper + seed as u32 % 7, (upper as usize, lower as usize));
+        let reader = Reader::open_with(cards, 60, upper, lower);
+        let mut met = vec![hold_calls_to_the_book(reader, bounds, calls(30 * upper as usize, seed))];
+        if seed % 3 == 0 {
+            met.push(hold_calls_to_the_book(Reader::format_1(90, 60), (4, 2), calls(150, seed)));
+        }
+        splits += met.iter().map(|met| met.splits).sum::<usize>();
+        contractions += met.iter().map(|met| met.contractions).sum::<usize>();
+    }
+    assert!(splits > 100 && contractions > 100, "{splits} splits, {contractions} contractions");
+}
+
+/// 256 buckets with more cards than the upper bound allows: they are filled, called at random, and emptied.
+#[test]
+fn a_store_over_its_bound() {
+    let mut random = Random::new(401);
+    let serials: Vec<String> = (0..540).map(|n| format!("N{n}")).collect();
+    let entered = serials.iter().cloned().map(Call::Enter);
+    let mixed: Vec<Call> = random_calls(&mut random, 60, 200, WAVE);
+    let withdrawn = serials.iter().rev().cloned().map(Call::Withdraw);
+    let calls = entered.chain(mixed).chain(withdrawn).collect();
+    let met = hold_calls_to_the_book(Reader::open_with(600, 10, 2, 1), (2, 1), calls);
+    assert!(met.over > 100, "{} calls over the upper bound", met.over);
+    assert!(met.splits >= 240 && met.contractions >= 200, "{} splits, {} contractions", met.splits, met.contractions);
+}
+
 /// The answer line of a call that gave these numbers: what it listed stands in the room.
 fn answer_line(call: &Call, numbers: [u32; 4], room: &[u32]) -> String {
     let listed = match (call, numbers[0]) {
@@ -268,7 +327,7 @@ fn answer_line(call: &Call, numbers: [u32; 4], room: &[u32]) -> String {
 #[test]
 fn a_job_is_its_calls() {
     let mut random = Random::new(7);
-    let calls = random_calls(&mut random, 300, 1_000);
+    let calls = random_calls(&mut random, 300, 1_000, WAVE);
     let text: String = calls.iter().map(job_line).collect();
     let mut single = Reader::open(256, 512);
     let answers = calls.iter().map(|call| {

@@ -20,17 +20,65 @@ fn full_reader() -> Reader {
     reader
 }
 
+/// The number of Open on so many words, which a refusal leaves as they were.
+fn opened(length: usize, (cards, faults): (u32, u32), (upper, lower): (u32, u32)) -> u32 {
+    let mut words = vec![7; length];
+    let number = calls::open(&mut words, cards, faults, upper, lower);
+    assert!(number == 0 || words == vec![7; length], "C {cards}, F {faults}, U {upper}, L {lower}, {length} words");
+    number
+}
+
+/// Lengths other than that of the least store.
+const OTHER_LENGTHS: [usize; 4] = [0, 287, 299, 301];
+
 #[test]
-fn open_tests_limits_before_length() {
-    for (cards, faults) in [(0, 1), (1_025, 1), (1, 0), (1, 2_049), (u32::MAX, u32::MAX)] {
-        assert_eq!(calls::open(&mut [7; 300], cards, faults), 1, "C {cards}, F {faults}");
+fn open_tests_limits_before_bounds_before_length() {
+    for limits in [(0, 1), (1_025, 1), (1, 0), (1, 2_049), (u32::MAX, u32::MAX)] {
+        for bounds in [(4, 2), (4, 3), (0, 0)] {
+            assert_eq!(opened(300, limits, bounds), 1, "{limits:?} {bounds:?}");
+            assert_eq!(opened(299, limits, bounds), 1, "{limits:?} {bounds:?}");
+        }
     }
-    for length in [0, 287, 299, 301] {
-        let mut words = vec![7; length];
-        assert_eq!(calls::open(&mut words, 1, 1), 2, "{length} words");
-        assert_eq!(words, vec![7; length]);
+    for length in OTHER_LENGTHS {
+        assert_eq!(opened(length, (1, 1), (1, 1)), 15, "{length} words");
+        assert_eq!(opened(length, (1, 1), (4, 2)), 2, "{length} words");
     }
-    assert_eq!(calls::open(&mut [7; 300], 1, 1), 0);
+    assert_eq!(opened(300, (1, 1), (4, 2)), 0);
+}
+
+/// Numbers about the edges of bounds, and numbers of which the double or 256 times the number does not fit a word.
+const BOUNDS: [u32; 20] = [
+    0,
+    1,
+    2,
+    3,
+    4,
+    5,
+    6,
+    7,
+    8,
+    9,
+    10,
+    11,
+    12,
+    256,
+    1 << 24,
+    (1 << 24) + 4,
+    1 << 31,
+    (1 << 31) + 1,
+    (1 << 31) + 5,
+    u32::MAX,
+];
+
+#[test]
+fn open_takes_an_upper_bound_to_10_and_a_lower_one_to_half_of_it() {
+    for upper in BOUNDS {
+        for lower in BOUNDS {
+            let fits =
+                [2, 3, 4, 5, 6, 7, 8, 9, 10].contains(&upper) && lower >= 1 && u64::from(lower) * 2 <= upper.into();
+            assert_eq!(opened(300, (1, 1), (upper, lower)), if fits { 0 } else { 15 }, "U {upper}, L {lower}");
+        }
+    }
 }
 
 #[test]
@@ -123,7 +171,7 @@ fn run(reader: &mut Reader, scratch: usize, text: &str, out: usize) -> Ran {
 #[test]
 fn a_job_refused_whole_leaves_all_but_scratch() {
     let long = "E 7\n".repeat(4_097);
-    let cases = [(383, &long[..], 9, 11), (385, &long, 9, 13), (385, "E 7", 9, 3), (385, "", 9, 3), (385, "", 1, 0)];
+    let cases = [(383, &long[..], 9, 11), (385, &long, 9, 13), (385, "E 7", 9, 3), (385, "", 9, 3), (385, "", 2, 0)];
     for (scratch, text, format, number) in cases {
         let mut reader = full_reader();
         reader.words[0] = format;

@@ -173,7 +173,7 @@ fn refusals_in_their_order() {
         let applies: Vec<bool> = (0..4).map(|place| applies >> place & 1 == 1).collect();
         let (mut words, mut lengths) = run_of(&[&reader]);
         if applies[2] {
-            words[0] = 2;
+            words[0] = 3;
         }
         for count in if applies[1] { vec![0, 9] } else { vec![1] } {
             lengths.resize(count, 300);

@@ -3,7 +3,7 @@ mod common;
 
 use common::{serials, Reader};
 use reference::job;
-use reference::rules::{self, State};
+use reference::rules::{self, Bounds, State};
 
 #[test]
 fn the_worked_job() {
@@ -15,8 +15,8 @@ fn the_worked_job() {
 #[test]
 fn marked_examples_of_the_loads() {
     let (b16, b17) = (State::FRESH, State { maxp: 16, p: 1 });
-    assert!(!rules::splits(64, b16) && rules::splits(65, b16));
-    assert!(!rules::contracts(34, b17) && rules::contracts(33, b17));
+    assert!(!rules::splits(64, b16, Bounds::USUAL) && rules::splits(65, b16, Bounds::USUAL));
+    assert!(!rules::contracts(34, b17, Bounds::USUAL) && rules::contracts(33, b17, Bounds::USUAL));
 }
 
 #[test]

@@ -5,11 +5,12 @@ mod common;
 use common::{serials, Reader};
 use reference::calls;
 use reference::layout::{encode, Offsets};
-use reference::lists::{Card, Entry, Fault, Limits, Store};
-use reference::rules::{self, State};
+use reference::lists::{Card, Entry, Fault, Format, Limits, Store};
+use reference::rules::{self, Bounds, State};
 use reference::serial::Serial;
 use reference::sound::sound;
 use std::collections::BTreeSet;
+use std::ops::Range;
 
 // ---- the second judge
 
@@ -38,6 +39,15 @@ fn card_as_found(words: &[u32], limits: Limits, cell: u32) -> Option<Card> {
     Some(Card { cell, serial: Serial::stored(words[at + 1], &words[at + 2..at + 6])?, faults })
 }
 
+/// Format 1 says nothing of bounds; in format 2 they are whole part and remainder of word 14 by 256.
+fn format_as_found(words: &[u32]) -> Option<Format> {
+    match (words[0], words[14]) {
+        (1, 0) => Some(Format::One),
+        (2, both) => Some(Format::Two(Bounds { upper: both / 256, lower: both % 256 })),
+        _ => None,
+    }
+}
+
 fn lists_as_found(words: &[u32]) -> Option<Store> {
     let limits = Limits { cards: *words.get(1)?, faults: *words.get(2)? };
     let state = State { maxp: *words.get(3)?, p: *words.get(4)? };
@@ -49,6 +59,7 @@ fn lists_as_found(words: &[u32]) -> Option<Store> {
     let bucket = |head: &u32| cards(*head)?.into_iter().map(|cell| card_as_found(words, limits, cell)).collect();
     let heads = &words[32..32 + buckets as usize];
     Some(Store {
+        format: format_as_found(words)?,
         limits,
         state,
         buckets: heads.iter().map(bucket).collect::<Option<_>>()?,
@@ -69,14 +80,19 @@ fn good(store: &Store) -> bool {
     let fault_cells = faults.iter().map(|fault| fault.cell).chain(store.free_faults.iter().copied()).collect();
     let serials: BTreeSet<&Serial> = store.cards().map(|card| &card.serial).collect();
     let (n, b) = (store.cards_held(), store.buckets.len());
+    let Bounds { upper, lower } = store.format.bounds();
+    let (u, l) = (upper as usize, lower as usize);
     [16, 32, 64, 128, 256].contains(&store.state.maxp)
         && store.state.p < store.state.maxp
         && each_once(store.limits.cards, cards)
         && each_once(store.limits.faults, fault_cells)
         && faults.iter().all(|fault| fault.entry.in_range())
         && serials.len() == n
-        && n <= 4 * b
-        && (b == 16 || n >= 2 * b)
+        && (2..=10).contains(&u)
+        && l > 0
+        && 2 * l <= u
+        && (n <= u * b || b == 256)
+        && (b == 16 || n >= l * b)
         && (0..b).all(|at| store.buckets[at].iter().all(|card| store.home(&card.serial) == at))
 }
 
@@ -113,9 +129,18 @@ fn wide_store() -> Reader {
     reader
 }
 
-/// A store of lists with this state and n cards, each at home, whether or not the load allows it.
-fn loaded(state: State, n: usize) -> Vec<u32> {
-    let mut store = Store::fresh(Limits { cards: 1_024, faults: 1 });
+/// A store of 256 buckets with more cards than its upper bound allows.
+fn store_over_its_bound() -> Reader {
+    let mut reader = Reader::open_with(520, 1, 2, 1);
+    reader.enter_all(&serials(520));
+    assert_eq!(reader.words[3..6], [256, 0, 520]);
+    reader
+}
+
+/// A store of lists with this format and state and n cards, each at home, whether or not the load allows it.
+fn loaded(format: Format, state: State, n: usize) -> Vec<u32> {
+    let mut store = Store::fresh(Limits { cards: 1_024, faults: 1 }, Bounds::USUAL);
+    store.format = format;
     store.state = state;
     store.buckets = vec![Vec::new(); state.buckets() as usize];
     for serial in serials(n) {
@@ -139,7 +164,7 @@ fn fresh_stores_are_sound() {
 fn a_fresh_store_word_by_word() {
     let words = Reader::open(3, 2).words;
     assert_eq!(words.len(), 288 + 27 + 6);
-    assert_eq!(words[..16], [1, 3, 2, 16, 0, 0, 0, 1, 1, 16, 32, 288, 315, 321, 0, 0]);
+    assert_eq!(words[..16], [2, 3, 2, 16, 0, 0, 0, 1, 1, 16, 32, 288, 315, 321, 1_026, 0]);
     assert_eq!(words[16], 32);
     assert!(words[17..288].iter().all(|&word| word == 0));
     assert_eq!(words[288..297], [2, 0, 0, 0, 0, 0, 0, 0, 0]);
@@ -194,7 +219,52 @@ fn the_load_decides_at_its_bounds() {
         (state(256, 0), 1_024, true),
     ];
     for (state, n, expected) in cases {
-        assert_eq!(sound(&loaded(state, n)), expected, "{state:?} with {n} cards");
+        assert_eq!(sound(&loaded(Format::One, state, n)), expected, "{state:?} with {n} cards, format 1");
+        assert_eq!(sound(&loaded(USUAL, state, n)), expected, "{state:?} with {n} cards");
+    }
+}
+
+const USUAL: Format = Format::Two(Bounds::USUAL);
+
+/// At the least table there is no lower bound, and at the greatest no upper one.
+#[test]
+fn the_load_decides_at_the_bounds_of_its_store() {
+    let tables = [(16, 0), (16, 1), (32, 0), (64, 37), (128, 127), (256, 0)];
+    for (upper, lower) in [(2, 1), (3, 1), (5, 2), (9, 4), (10, 1), (10, 5)] {
+        let format = Format::Two(Bounds { upper, lower });
+        for state in tables.map(|(maxp, p)| State { maxp, p }) {
+            let (b, least, most) = (state.buckets(), lower * state.buckets(), upper * state.buckets());
+            let cases = [(least - 1, b == 16), (least, true), (most, true), (most + 1, b == 256)];
+            for (n, expected) in cases.into_iter().filter(|&(n, _)| n <= 1_024) {
+                let judged = sound(&loaded(format, state, n as usize));
+                assert_eq!(judged, expected, "U {upper}, L {lower}, {b} buckets, {n} cards");
+            }
+        }
+    }
+    let lowest = Format::Two(Bounds { upper: 2, lower: 1 });
+    assert!(sound(&loaded(lowest, State { maxp: 256, p: 0 }, 1_024)));
+}
+
+#[test]
+fn format_1_has_0_in_word_14_and_format_2_its_bounds() {
+    let mut words = small_store().words;
+    let mut judged = |format, bounds| {
+        (words[0], words[14]) = (format, bounds);
+        sound(&words)
+    };
+    for bounds in 0..70_000 {
+        let (upper, lower) = (bounds / 256, bounds % 256);
+        let fits = (2..=10).contains(&upper) && lower >= 1 && 2 * lower <= upper;
+        assert_eq!(judged(2, bounds), fits, "format 2, word 14 is {bounds}");
+        assert_eq!(judged(1, bounds), bounds == 0, "format 1, word 14 is {bounds}");
+    }
+    for bounds in (0..32).map(|bit| 1_026 ^ (1 << bit)).chain([u32::MAX]) {
+        // Of these only two are bounds: 5 and 2, 6 and 2.
+        let fits = [5 * 256 + 2, 6 * 256 + 2].contains(&bounds);
+        assert_eq!(judged(2, bounds), fits, "format 2, word 14 is {bounds}");
+    }
+    for format in [0, 3, 4, 5, 256, 1 << 31, (1 << 31) + 2, u32::MAX] {
+        assert!(!judged(format, 0) && !judged(format, 1_026), "format {format}");
     }
 }
 
@@ -222,11 +292,14 @@ fn other_values(word: u32) -> BTreeSet<u32> {
     values
 }
 
-/// The words that may hold another value in a sound store: a held fault's day and code, a held card's serial, and p, where
-/// no card's address and no segment depends on it.
+/// The words that may hold another value in a sound store: a held fault's day and code, a held card's serial, p, where
+/// no card's address and no segment depends on it, and the bounds, which format 1 does not have.
 fn free_to_change(store: &Store) -> BTreeSet<usize> {
     let offsets = Offsets::of(store.limits);
     let mut places = BTreeSet::from([4]);
+    if store.format != Format::One {
+        places.insert(14);
+    }
     for card in store.cards() {
         let at = offsets.cards + 9 * (card.cell as usize - 1);
         places.extend(at + 2..at + 6);
@@ -239,9 +312,13 @@ fn free_to_change(store: &Store) -> BTreeSet<usize> {
 }
 
 fn judge_every_damage(reader: &Reader) {
+    judge_damage(reader, 0..reader.words.len());
+}
+
+fn judge_damage(reader: &Reader, places: Range<usize>) {
     let may_change = free_to_change(&reader.lists());
     let mut words = reader.words.clone();
-    for at in 0..words.len() {
+    for at in places {
         let kept = words[at];
         for value in other_values(kept) {
             words[at] = value;
@@ -272,6 +349,29 @@ fn every_damage_of_a_grown_store() {
 #[test]
 fn every_damage_of_a_wide_store() {
     judge_every_damage(&wide_store());
+}
+
+#[test]
+fn every_damage_of_stores_of_format_1() {
+    judge_every_damage(&Reader::format_1(3, 4));
+    let mut reader = Reader::format_1(75, 3);
+    reader.enter_all(&serials(72));
+    judge_every_damage(&reader);
+}
+
+#[test]
+fn every_damage_of_stores_of_other_bounds() {
+    for (upper, lower) in [(2, 1), (10, 5)] {
+        let mut reader = Reader::open_with(75, 3, upper, lower);
+        reader.enter_all(&serials(72));
+        judge_every_damage(&reader);
+    }
+}
+
+/// The header alone, since each verdict takes its time there.
+#[test]
+fn damage_of_the_header_of_a_store_over_its_bound() {
+    judge_damage(&store_over_its_bound(), 0..16);
 }
 
 #[test]
@@ -337,6 +437,6 @@ fn every_call_refuses_a_damaged_store_and_leaves_it() {
     assert_eq!(reader.withdraw("7"), [3, 0, 0, 0]);
     assert_eq!((&reader.words, &reader.room), (&before, &room));
     // Opening it again makes it whole.
-    assert_eq!(calls::open(&mut reader.words, 5, 6), 0);
+    assert_eq!(calls::open(&mut reader.words, 5, 6, 4, 2), 0);
     assert_eq!(reader.words, Reader::open(5, 6).words);
 }

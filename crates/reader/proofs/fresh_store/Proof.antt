@@ -1,4 +1,4 @@
--- `reader::fresh_store` meets its contract: Open accepts these limits for so many words, whatever they hold.
+-- `reader::fresh_store` meets its contract: Open accepts these limits and bounds for so many words, whatever they hold.
 use mathlib.Core.Path.{_∙_}
 use Prim.Native.Nat.{ℕ}
 use lib.ListN.{length-replicate}

@@ -25,9 +25,20 @@ pub fn numbers(answer: Answer) -> [u32; 4] {
 
 impl Reader {
     pub fn open(cards: u32, faults: u32) -> Reader {
+        Reader::open_with(cards, faults, 4, 2)
+    }
+
+    pub fn open_with(cards: u32, faults: u32, upper: u32, lower: u32) -> Reader {
         let mut words = vec![0; 288 + 9 * cards as usize + 3 * faults as usize];
-        assert_eq!(calls::open(&mut words, cards, faults), 0);
+        assert_eq!(calls::open(&mut words, cards, faults, upper, lower), 0);
         Reader { words, room: vec![0; 2 * faults as usize] }
+    }
+
+    /// A fresh store as it was before there were bounds in it.
+    pub fn format_1(cards: u32, faults: u32) -> Reader {
+        let mut reader = Reader::open(cards, faults);
+        (reader.words[0], reader.words[14]) = (1, 0);
+        reader
     }
 
     pub fn enter(&mut self, serial: &str) -> [u32; 4] {

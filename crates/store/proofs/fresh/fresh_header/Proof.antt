@@ -28,7 +28,7 @@ fresh-header-spec =
     (λ c κs. tt)
     (λ c κs. tt)
     (λ c κs. tt)
-    (λ c κs. tt)
+    (λ c κs. search needs)
     (λ c κs. tt)
     (λ c. search needs)
     (λ c. let p = spans _ (start c .pre) in omega (arith, c .before .before .before .before .before .segments-at .ensures))

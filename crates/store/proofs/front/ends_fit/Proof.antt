@@ -49,7 +49,7 @@ ends-fit-spec =
     (λ c κs. tt)
     returns-2
     (λ c κs. search needs)
-    (λ c κs. tt)
+    (λ c κs. search needs)
     returns-3
     (λ c κs. search needs)
     (λ c κs. tt)

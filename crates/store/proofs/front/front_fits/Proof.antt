@@ -58,7 +58,7 @@ front-fits-spec =
     (tie.spec
     (λ c κs. tt)
     returns
-    (λ c κs. fit-is _ (limits c) .head)
+    (λ c κs. let f = fit-is _ (limits c) in (f .head, f .ok))
     returns-2
     (λ c κs. (limits (c .before .before), offsets c))
     (λ c κs. tt)

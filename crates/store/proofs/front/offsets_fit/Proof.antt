@@ -1,7 +1,8 @@
 -- `front::offsets_fit` meets its contract: words 9 to 11 are tested, then words 12 to 15.
-use mathlib.Core.Path.{sym, _∙_}
+use mathlib.Core.Path.{sym, ap, _∙_}
 use borrow.Author.Needs.{needs}
 use borrow.Author.Tests.{eq-eqb, ne-eqb}
+use Rattle.model.specs.Layout.{shapeOk}
 use Rattle.store.proofs.Rows.{and-rest, and-fails}
 use Rattle.store.specs.Checker.{offsetsFit}
 use Rattle.store.proofs.front.offsets_fit.Statement.{statement}
@@ -43,6 +44,11 @@ returns-4 c =
     ∙ and-rest _ (eq-eqb _ _ (sym (two .before .before .wide-word2 .ensures) ∙ two .if2 .left ∙ two .before .segments-at .ensures))
     ∙ and-rest _ (eq-eqb _ _ (sym (three .before .before .wide-word3 .ensures) ∙ three .if3 .left ∙ three .before .cards-at .ensures))))
 
+ends-fit-requires : tie.Need-ends-fit-requires
+ends-fit-requires c κs =
+    let made = c .before .before .before .before .before .before .before .before in
+    (made .before .before .pre .0, ap shapeOk (made .shape-of .ensures) ∙ made .before .before .pre .1)
+
 pub offsets-fit-spec : {M : Type 1} → statement M
 offsets-fit-spec =
     tie.close
@@ -56,5 +62,5 @@ offsets-fit-spec =
     (λ c κs. search needs)
     (λ c κs. tt)
     returns-3
-    (λ c κs. search needs)
+    ends-fit-requires
     returns-4)

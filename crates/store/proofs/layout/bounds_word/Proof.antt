@@ -1,12 +1,25 @@
--- `layout::bounds_word` meets its contract: format 1 has no word for its bounds.
-use mathlib.Core.Path.{refl}
+-- `layout::bounds_word` meets its contract: none in format 1, else U and L, which fit a word since U is at most 10.
+use native.Mathlib.Omega.{arith}
+use borrow.Author.Needs.{needs}
+use borrow.Author.Tests.{eq-eqb, ne-eqb}
 use Rattle.model.specs.Layout.{boundsWord}
+use Rattle.model.proofs.Shapes.{shaped}
 use Rattle.store.proofs.layout.bounds_word.Statement.{statement}
 use Rattle.store.proofs.layout.bounds_word.Tie as tie
 
 returns : tie.Need-returns
 unfolding boundsWord
-returns c = refl
+returns c = rw (eq-eqb _ 1 (c .if1 .taken))
+
+returns-2 : tie.Need-returns-2
+unfolding boundsWord
+returns-2 c = rw (ne-eqb _ 1 (c .if1 .left))
 
 pub bounds-word-spec : {M : Type 1} → statement M
-bounds-word-spec = tie.close (tie.spec returns)
+bounds-word-spec =
+    tie.close
+    (tie.spec
+    (λ c. let m = shaped _ (c .before .pre) .bounds in omega (arith, m .ten, m .half))
+    (λ c. let m = shaped _ (c .before .pre) .bounds in omega (arith, m .ten, m .half))
+    returns
+    returns-2)

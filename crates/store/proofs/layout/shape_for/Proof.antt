@@ -1,4 +1,4 @@
--- `layout::shape_for` meets its contract: format 1, with 4 and 2.
+-- `layout::shape_for` meets its contract: format 2, with the limits and bounds that were asked for.
 use mathlib.Core.Path.{refl}
 use Rattle.model.specs.Calls.{shapeFor}
 use Rattle.store.proofs.layout.shape_for.Statement.{statement}

@@ -14,11 +14,11 @@ abbrev μ-loop : tie.MeasureT-loop
 μ-loop words₀ scratch₀ room₀ letter count from step n₀ sum₀ k₀ words scratch room n sum k = count - k
 
 -- where the call was made, and where its turn began
-abbrev asked : tie.After-report-now Inv-loop μ-loop → tie.After-ask Inv-loop μ-loop
+abbrev asked : tie.After-report-turn Inv-loop μ-loop → tie.After-ask Inv-loop μ-loop
 asked c = c .before .before .before .before .before .before .before .before .before .before
 
 abbrev turned : tie.After-ask Inv-loop μ-loop → tie.At-loop Inv-loop μ-loop
-turned c = c .before .before .before .before .before .before
+turned c = c .before .before .before .before .before .before .before .before
 
 loop-again : tie.Need-loop-again Inv-loop μ-loop
 loop-again c =
@@ -33,6 +33,7 @@ many-spec =
     Inv-loop
     μ-loop
     (λ c. (refl, refl, refl))
+    (λ c κs. tt)
     (λ c κs. tt)
     (λ c κs. tt)
     (λ c κs. tt)
