@@ -4,6 +4,7 @@
 -- (`same-words`, `same-events`, `same-tells`), and the model's theorems hold of what the program gave and wrote.
 -- One line of a job that was answered: where its answer stands in the output (`line-said`), when a filing is answered by 9 (`filing-answered`),
 -- and that the pairs in the answer of a Show or a Withdraw list the card's history (`showing-answered`, `withdrawing-answered`).
+-- The table has no more than the most buckets (`program-top`), and without an accepted Open format and bounds stay (`program-for-life`).
 use mathlib.Core.Path.{_≡_, refl, sym, ap, _∙_}
 use mathlib.Core.Logic.{_↔_}
 use mathlib.Core.Bool.{true}
@@ -13,7 +14,9 @@ use native.Mathlib.Omega.{arith}
 use lib.ListN.{length, take, drop, getD}
 use lib.Seq.{length-take-le, take-take, take-at, getD-take}
 use Rattle.model.specs.Serial.{validSerial, validFault}
+use Rattle.model.specs.Shape.{topOf}
 use Rattle.model.specs.Layout.{shapeOf, sound, decodeAs, decode}
+use Rattle.model.specs.Meaning.{bucketsIn}
 use Rattle.model.specs.Calls.{Answer, Step, Terms, shapeFor, openCall}
 use Rattle.model.specs.Plain.{Book}
 use Rattle.model.specs.Runs.{Act, Call, Call.acting, run, Event, eventsOf, events, history, taken, gone, since, Tell, tells, bookAfter, bookTells}
@@ -26,6 +29,7 @@ use Rattle.model.proofs.Demands.{Demand3, Demand2, book-run}
 use Rattle.model.proofs.Look.{look}
 use Rattle.model.proofs.Listed.{ByDay, Listed}
 use Rattle.model.proofs.Outcomes.{sound-run}
+use Rattle.model.proofs.Buckets.{NoneOpened, SameTerms, top-holds, kept-for-life}
 use Rattle.model.proofs.Deeds.{job-calls, said-at, deed-run, deeds-run, deeds-demand3, deeds-demand2, deeds-demand2-from, filing-line, showing-line, withdrawing-line}
 use Rattle.model.proofs.Heard.{events-append, tells-append, said-seen, said-told, seen-before, number-read, pairs-read}
 use Rattle.model.proofs.Jobs.{lines-few}
@@ -186,6 +190,20 @@ as-list w ok b g ms a d =
 -- from any sound store on, with the list of its own cards
 pub program-demand2-from : (w : List ℕ) → sound w ≡ true → (ms : List Made) → AllMeet w ms → AsList w (bookOf (decode w)) ms
 program-demand2-from w ok ms a = as-list w ok (bookOf (decode w)) (deeds-demand2-from w ok [] .0 .agrees) ms a (deeds-demand2-from w ok (map askedIn ms))
+
+-- from any sound store on: no more than the most buckets, and the words for the format and the bounds as they were where no Open was answered by 0
+module _ (w : List ℕ) (ok : sound w ≡ true) (ms : List Made) (a : AllMeet w ms) where
+  abbrev cs : List Call
+  cs = callsInAll w (map askedIn ms)
+
+  end-words : endWords w ms ≡ run w cs
+  end-words = same-words w ms a ∙ deeds-run w ok (map askedIn ms)
+
+  pub program-top : bucketsIn (endWords w ms) ≤ topOf (shapeOf (endWords w ms))
+  program-top = rw end-words (top-holds (run w cs) (sound-run w ok cs) .1)
+
+  pub program-for-life : NoneOpened (seenOf ms) → SameTerms w (endWords w ms)
+  program-for-life n = rw end-words (kept-for-life w ok cs (rw (← (same-events w ok ms a)) n))
 
 module _ (w₀ w : List ℕ) (asked : Terms) (o : Opens (openCall w₀ asked) 0 w) (ms : List Made) (a : AllMeet w ms) where
   opened-sound : sound w ≡ true

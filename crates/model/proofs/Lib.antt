@@ -18,9 +18,10 @@ pub mod Decode
 pub mod Sound
 pub mod Fresh
 pub mod Readings
--- What soundness means
+-- What soundness means, and in format 1
 pub mod Walks
 pub mod Meaning
+pub mod FormatOne
 -- What each step does to it, the auditor's second question, and a chain cut at a card
 pub mod Look
 pub mod Steps
@@ -37,6 +38,7 @@ pub mod Demand2
 pub mod Outcomes
 pub mod WordNumbers
 pub mod Demands
+pub mod Buckets
 pub mod Counts
 pub mod Deeds
 pub mod Jobs

@@ -15,7 +15,8 @@ pub mod Text
 pub mod Job
 pub mod Deeds
 pub mod Heard
--- document 02: faults by code
+-- document 02: faults by code; and the soundness of document 01's store, which is format 1 now, in its own numbers
 pub mod Report
+pub mod FormatOne
 -- of neither: bounds over all formats, for laws and inner contracts
 pub mod Bounds

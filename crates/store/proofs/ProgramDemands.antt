@@ -1,23 +1,27 @@
 -- Demands 2 and 3 of the program itself, over every sequence of its calls after an accepted Open. A call that meets its contract gives and
 -- leaves what the model says, by equations; so a sequence of calls that meet theirs is the model's sequence (`same-words`, `same-events`,
 -- `same-tells`), and the model's theorems hold of it. `program-room` is the last sentence of demand 3, of a filing that the program answered;
--- `program-shown` and `program-withdrawn` are what demand 3 says of listings, of a Show and a Withdraw that the program answered.
+-- `program-shown` and `program-withdrawn` are what demand 3 says of listings, of a Show and a Withdraw that the program answered. `program-buckets`, `program-top` and
+-- `program-for-life` tell of the table: when it grew or contracted, that it has no more than the most buckets, and that format and bounds stay.
 use mathlib.Core.Path.{_≡_, refl, sym, ap, _∙_}
 use mathlib.Core.Logic.{_↔_}
 use mathlib.Core.Bool.{true, cond}
 use mathlib.Core.List.{List, [], _∷_, map}
 use Prim.Native.Nat.{ℕ, _-_, _≤_}
 use lib.Dec.{eqb}
-use lib.ListN.{length, take}
+use lib.ListN.{length, take, getD}
 use Rattle.model.specs.Serial.{validSerial, validFault}
-use Rattle.model.specs.Shape.{need}
-use Rattle.model.specs.Layout.{shapeOf, decode, sound}
+use Rattle.model.specs.Shape.{topOf, need}
+use Rattle.model.specs.Layout.{heldAt, shapeOf, decode, sound}
+use Rattle.model.specs.Meaning.{bucketsIn}
 use Rattle.model.specs.Calls.{Terms, shapeFor, openCall}
 use Rattle.model.specs.Plain.{Book}
 use Rattle.model.specs.Runs.{Act, taken, gone, since, Call, Call.opening, Call.acting, wordsAfter, run, Event, Event.opened, eventsOf, events, history, tellOf, tells, bookAfter, bookTells}
 use Rattle.model.proofs.Demand2.{Agrees, bookOf, emptyBook}
 use Rattle.model.proofs.Look.{look}
 use Rattle.model.proofs.Listed.{Listed}
+use Rattle.model.proofs.Outcomes.{sound-run}
+use Rattle.model.proofs.Buckets.{ByTheRules, NoneOpened, SameTerms, buckets-by-the-rules, top-holds, kept-for-life}
 use Rattle.model.proofs.Demands.{termsAfter, lastTerms, limit-of-the-last-open, Demand3, Demand2, demand3, demand2, demand2-from}
 use Rattle.store.specs.Leaves.{Opens}
 use Rattle.store.specs.Sequences.{Given, Made, Meets, AllMeet, endWords, seen, seenOf, termsBy, lastAsked, toldOf}
@@ -126,3 +130,16 @@ program-demand2 w₀ w t o ms a =
 -- from any sound store on, with the list of its own cards
 pub program-demand2-from : (w : List ℕ) → sound w ≡ true → (ms : List Made) → AllMeet w ms → AsList w (bookOf (decode w)) ms
 program-demand2-from w ok ms a = as-list w (bookOf (decode w)) ms a (demand2-from w ok (callsOf ms))
+
+-- the table, over any bounds, read off the words that the program left: a call that it answered by 0 made one bucket more, one fewer or none exactly by the rules
+pub program-buckets : (w : List ℕ) → sound w ≡ true → (scratch : List ℕ) (a : Act) (g : Given) → Meets w (acting scratch a) g → g .answer .number ≡ 0
+    → ByTheRules a (shapeOf w) (getD (g .words) heldAt 0) (bucketsIn w) (bucketsIn (g .words))
+program-buckets w ok scratch a g e z = rw (e .words-are) (buckets-by-the-rules w ok scratch a (sym (e .answer .number-is) ∙ z))
+
+-- from any sound store on there are never more than the most buckets
+pub program-top : (w : List ℕ) → sound w ≡ true → (ms : List Made) → AllMeet w ms → bucketsIn (endWords w ms) ≤ topOf (shapeOf (endWords w ms))
+program-top w ok ms a = rw (same-words w ms a) (top-holds (run w (callsOf ms)) (sound-run w ok (callsOf ms)) .1)
+
+-- and where no Open was answered by 0 among the calls, the words for the format and the bounds stay
+pub program-for-life : (w : List ℕ) → sound w ≡ true → (ms : List Made) → AllMeet w ms → NoneOpened (seenOf ms) → SameTerms w (endWords w ms)
+program-for-life w ok ms a n = rw (same-words w ms a) (kept-for-life w ok (callsOf ms) (rw (← (same-events w ms a)) n))
