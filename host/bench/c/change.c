@@ -46,7 +46,7 @@ static void split(uint32_t *words) {
 
 static void enter(uint32_t *words, const struct serial *serial, const struct spot *spot) {
     place(words, serial, spot);
-    if (must_split(words[CARDS_HELD], buckets_of(words))) {
+    if (must_split(bounds_of(words), words[CARDS_HELD], buckets_of(words))) {
         split(words);
     }
 }
@@ -123,7 +123,7 @@ static void contract(uint32_t *words) {
 
 static void withdraw(uint32_t *words, const struct spot *spot) {
     take_out(words, spot);
-    if (must_contract(words[CARDS_HELD], buckets_of(words))) {
+    if (must_contract(bounds_of(words), words[CARDS_HELD], buckets_of(words))) {
         contract(words);
     }
 }

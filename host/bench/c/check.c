@@ -15,10 +15,15 @@ static bool all_zero(const uint32_t *words, size_t count) {
     return true;
 }
 
-static bool limits_sound(const uint32_t *words, size_t length) {
-    if (length < CARDS || words[FORMAT_WORD] != FORMAT) {
-        return false;
+/* The first format leaves the word of the bounds 0. */
+static bool format_sound(const uint32_t *words, struct bounds bounds) {
+    if (words[FORMAT_WORD] == FIRST_FORMAT) {
+        return words[BOUNDS] == 0;
     }
+    return words[FORMAT_WORD] == FORMAT && bounds_ok(bounds);
+}
+
+static bool limits_sound(const uint32_t *words, size_t length) {
     uint32_t cards = words[CARD_LIMIT], faults = words[FAULT_LIMIT];
     bool in_range = 1 <= cards && cards <= MOST_CARDS && 1 <= faults && faults <= MOST_FAULTS;
     return in_range && length == length_for(cards, faults);
@@ -30,9 +35,9 @@ static bool offsets_sound(const uint32_t *words, size_t length) {
            all_zero(words + HEADER_REST, DIRECTORY - HEADER_REST);
 }
 
-static bool load_sound(const uint32_t *words) {
-    uint32_t buckets = buckets_of(words);
-    return !must_split(words[CARDS_HELD], buckets) && !must_contract(words[CARDS_HELD], buckets);
+static bool load_sound(const uint32_t *words, struct bounds bounds) {
+    uint32_t cards = words[CARDS_HELD], buckets = buckets_of(words);
+    return !must_split(bounds, cards, buckets) && !must_contract(bounds, cards, buckets);
 }
 
 /* A segment is in use when its first bucket is there. */
@@ -47,11 +52,15 @@ static bool directory_sound(const uint32_t *words) {
 }
 
 static bool front_sound(const uint32_t *words, size_t length) {
-    if (!limits_sound(words, length) || !state_ok(words[MAXP], words[P])) {
+    if (length < CARDS) {
+        return false;
+    }
+    struct bounds bounds = bounds_of(words);
+    if (!format_sound(words, bounds) || !limits_sound(words, length) || !state_ok(words[MAXP], words[P])) {
         return false;
     }
     uint32_t buckets = buckets_of(words);
-    return offsets_sound(words, length) && load_sound(words) && directory_sound(words) &&
+    return offsets_sound(words, length) && load_sound(words, bounds) && directory_sound(words) &&
            all_zero(words + SEGMENTS + buckets, MOST_BUCKETS - buckets);
 }
 

@@ -20,7 +20,7 @@ static uint32_t chain_length(const uint32_t *words, uint32_t bucket) {
 
 /* What a split will scan once the new card stands in this bucket. */
 static uint32_t split_scans(const uint32_t *words, uint32_t bucket) {
-    if (!must_split(words[CARDS_HELD] + 1, buckets_of(words))) {
+    if (!must_split(bounds_of(words), words[CARDS_HELD] + 1, buckets_of(words))) {
         return 0;
     }
     return chain_length(words, words[P]) + (bucket == words[P]);
@@ -29,7 +29,7 @@ static uint32_t split_scans(const uint32_t *words, uint32_t bucket) {
 /* What a contraction will scan once the card of this bucket has left: the last bucket is the one that goes. */
 static uint32_t contraction_scans(const uint32_t *words, uint32_t bucket) {
     uint32_t buckets = buckets_of(words);
-    if (!must_contract(words[CARDS_HELD] - 1, buckets)) {
+    if (!must_contract(bounds_of(words), words[CARDS_HELD] - 1, buckets)) {
         return 0;
     }
     return chain_length(words, buckets - 1) - (bucket == buckets - 1);

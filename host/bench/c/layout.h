@@ -5,7 +5,13 @@
 #include <stddef.h>
 #include <stdint.h>
 
-enum { FORMAT = 1, MOST_CARDS = 1024, MOST_FAULTS = 2048 };
+#include "rules.h"
+
+enum { MOST_CARDS = 1024, MOST_FAULTS = 2048 };
+
+/* The format that Open makes, which has the load bounds in a word, the upper one UPPER_UNIT times; and the first format, which has
+ * no word for its own. */
+enum { FORMAT = 2, UPPER_UNIT = 256, FIRST_FORMAT = 1, FIRST_UPPER = 4, FIRST_LOWER = 2 };
 
 /* The header. */
 enum {
@@ -23,6 +29,7 @@ enum {
     CARDS_AT,
     FAULTS_AT,
     LENGTH,
+    BOUNDS,
     HEADER_REST
 };
 
@@ -48,6 +55,17 @@ static inline size_t length_for(uint32_t cards, uint32_t faults) {
 
 static inline uint32_t buckets_of(const uint32_t *words) {
     return words[MAXP] + words[P];
+}
+
+static inline struct bounds bounds_of(const uint32_t *words) {
+    if (words[FORMAT_WORD] == FIRST_FORMAT) {
+        return (struct bounds){FIRST_UPPER, FIRST_LOWER};
+    }
+    return (struct bounds){words[BOUNDS] / UPPER_UNIT, words[BOUNDS] % UPPER_UNIT};
+}
+
+static inline uint32_t bounds_word(struct bounds bounds) {
+    return UPPER_UNIT * bounds.upper + bounds.lower;
 }
 
 /* The index of a cell's first word. Cells count from 1. */

@@ -9,6 +9,9 @@
 enum { MOST_INPUT = 262144, OUT = 65536, HEAD = 11, DIGITS = 9 };
 enum { WORDS = CARDS + CARD_WORDS * MOST_CARDS + FAULT_WORDS * MOST_FAULTS };
 
+/* The load bounds that the store is opened with. */
+enum { UPPER = 4, LOWER = 2 };
+
 static uint8_t input[MOST_INPUT], out[OUT], scratch[SCRATCH];
 static uint32_t words[WORDS];
 static struct pair list[MOST_FAULTS];
@@ -86,7 +89,7 @@ static void check(struct sums *sums) {
 static void run_frame(struct frame frame, struct sums *sums) {
     switch (frame.kind) {
     case 'O':
-        sums->numbers += open_store(words, WORDS, MOST_CARDS, MOST_FAULTS);
+        sums->numbers += open_store(words, WORDS, MOST_CARDS, MOST_FAULTS, (struct bounds){UPPER, LOWER});
         break;
     case 'J':
         job(frame.text, false, sums);

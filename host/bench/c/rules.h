@@ -9,10 +9,20 @@
 enum {
     LEAST_BUCKETS = 16,
     MOST_BUCKETS = 256,
-    /* Cards a bucket: above the one the table grows, below the other it contracts. */
-    UPPER_LOAD = 4,
-    LOWER_LOAD = 2
+    LEAST_UPPER = 2,
+    MOST_UPPER = 10
 };
+
+/* The load bounds, in cards a bucket: above the upper one the table grows, below the lower one it contracts. */
+struct bounds {
+    uint32_t upper, lower;
+};
+
+/* The lower bound is at least 1 and at most half of the upper one. Twice a bound might not fit a word. */
+static inline bool bounds_ok(struct bounds bounds) {
+    return LEAST_UPPER <= bounds.upper && bounds.upper <= MOST_UPPER && 1 <= bounds.lower &&
+           bounds.lower <= bounds.upper / 2;
+}
 
 static inline uint32_t code_of(const uint8_t *bytes, size_t length) {
     uint32_t code = 0;
@@ -38,12 +48,13 @@ static inline bool moves(uint32_t code, uint32_t maxp, uint32_t p) {
     return (code & (2 * maxp - 1)) == maxp + p;
 }
 
-static inline bool must_split(uint32_t cards, uint32_t buckets) {
-    return cards > UPPER_LOAD * buckets;
+/* With all buckets there the table does not grow, however many cards it holds. */
+static inline bool must_split(struct bounds bounds, uint32_t cards, uint32_t buckets) {
+    return cards > bounds.upper * buckets && buckets < MOST_BUCKETS;
 }
 
-static inline bool must_contract(uint32_t cards, uint32_t buckets) {
-    return cards < LOWER_LOAD * buckets && buckets > LEAST_BUCKETS;
+static inline bool must_contract(struct bounds bounds, uint32_t cards, uint32_t buckets) {
+    return cards < bounds.lower * buckets && buckets > LEAST_BUCKETS;
 }
 
 #endif

@@ -44,8 +44,8 @@ struct plan {
     struct spot spot;
 };
 
-/* Sets a fresh store, or gives 1 or 2. */
-uint32_t open_store(uint32_t *words, size_t length, uint32_t cards, uint32_t faults);
+/* Sets a fresh store, or gives 1, 15 or 2. */
+uint32_t open_store(uint32_t *words, size_t length, uint32_t cards, uint32_t faults, struct bounds bounds);
 
 /* Whether any words are those of a sound store. The SCRATCH bytes of scratch end zero. */
 bool sound(const uint32_t *words, size_t length, uint8_t *scratch);

@@ -2,9 +2,11 @@
 //! README.md says what a frame is.
 use std::io::{self, Read, Write};
 
-/// The limits of the store, the most input and the room for the answers of one job.
+/// The limits of the store, its load bounds, the most input and the room for the answers of one job.
 pub const CARDS: u32 = 1_024;
 pub const FAULTS: u32 = 2_048;
+pub const UPPER: u32 = 4;
+pub const LOWER: u32 = 2;
 pub const MOST_INPUT: usize = 262_144;
 pub const OUT: usize = 65_536;
 

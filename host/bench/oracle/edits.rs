@@ -1,4 +1,5 @@
-//! Sound stores, each with copies of it that have an edit or two.
+//! Sound stores of several bounds, each with copies of it that have an edit or two.
+use crate::fresh::{self, Bounds, BOUNDS_AT, FORMAT_AT};
 use reference::calls::{self, SCRATCH};
 use reference::layout::{Offsets, CARD_WORDS};
 use reference::lists::Limits;
@@ -7,36 +8,71 @@ use reference::serial::WIDTH;
 
 const SEED: u64 = 20_260_705;
 
-/// Limits, calls made on the store, and edited copies of it.
-const SHAPES: [(u32, u32, usize, usize); 6] =
-    [(1, 1, 9, 60), (3, 30, 60, 200), (20, 80, 50, 400), (100, 60, 150, 400), (150, 10, 400, 300), (200, 60, 300, 300)];
+/// What a store is opened with, the calls made on it, and how many edited copies there are of it.
+struct Shape {
+    limits: Limits,
+    bounds: Bounds,
+    calls: usize,
+    copies: usize,
+}
+
+const fn shape(limits: (u32, u32), bounds: (u32, u32), calls: usize, copies: usize) -> Shape {
+    let limits = Limits { cards: limits.0, faults: limits.1 };
+    let bounds = Bounds { upper: bounds.0, lower: bounds.1 };
+    Shape { limits, bounds, calls, copies }
+}
+
+/// The last has all 256 buckets, and more cards than twice as many.
+const SHAPES: [Shape; 10] = [
+    shape((1, 1), (4, 2), 9, 60),
+    shape((3, 30), (4, 2), 60, 200),
+    shape((20, 80), (4, 2), 50, 400),
+    shape((100, 60), (4, 2), 150, 400),
+    shape((150, 10), (4, 2), 400, 300),
+    shape((200, 60), (4, 2), 300, 300),
+    shape((100, 30), (2, 1), 300, 200),
+    shape((150, 20), (3, 1), 400, 200),
+    shape((200, 20), (10, 5), 600, 200),
+    shape((560, 20), (2, 1), 2_000, 200),
+];
+
+/// Stores that are in format 1 before the first call.
+const IN_FIRST_FORMAT: [Shape; 2] = [shape((20, 20), (4, 2), 60, 100), shape((150, 20), (4, 2), 400, 300)];
 
 pub fn stores() -> Vec<Vec<u32>> {
     let mut random = Random::new(SEED);
     let mut stores = Vec::new();
-    for (cards, faults, calls, copies) in SHAPES {
-        let words = store(&mut random, Limits { cards, faults }, calls);
-        stores.push(words.clone());
-        stores.extend((0..copies).map(|_| edited(&mut random, &words)));
+    for shape in &SHAPES {
+        let words = fresh::words(shape.limits, shape.bounds);
+        stores.extend(called_and_edited(&mut random, words, shape));
+    }
+    for shape in &IN_FIRST_FORMAT {
+        let mut words = fresh::words(shape.limits, shape.bounds);
+        fresh::set_first_format(&mut words);
+        stores.extend(called_and_edited(&mut random, words, shape));
     }
     stores
 }
 
-/// A store after random calls, half of them entries.
-fn store(random: &mut Random, limits: Limits, count: usize) -> Vec<u32> {
-    let mut words = vec![0; Offsets::of(limits).end];
-    calls::open(&mut words, limits.cards, limits.faults);
-    for _ in 0..count {
-        let (serial, length) = serial(random, limits.cards);
+/// The store after its calls, and the edited copies.
+fn called_and_edited(random: &mut Random, mut words: Vec<u32>, shape: &Shape) -> Vec<Vec<u32>> {
+    call(random, &mut words, shape);
+    let copies: Vec<Vec<u32>> = (0..shape.copies).map(|_| edited(random, &words)).collect();
+    [vec![words], copies].concat()
+}
+
+/// Random calls, half of them entries.
+fn call(random: &mut Random, words: &mut [u32], shape: &Shape) {
+    for _ in 0..shape.calls {
+        let (serial, length) = serial(random, shape.limits.cards);
         let (day, code) = (1 + random.word() % 65_535, 1 + random.word() % 9_999);
         let mut scratch = [0; SCRATCH];
         match random.below(8) {
-            0 => calls::withdraw(&mut words, &mut scratch, serial, length, &mut [0; 400]),
-            1..=3 => calls::file(&mut words, &mut scratch, serial, length, day, code),
-            _ => calls::enter(&mut words, &mut scratch, serial, length),
+            0 => calls::withdraw(words, &mut scratch, serial, length, &mut [0; 400]),
+            1..=3 => calls::file(words, &mut scratch, serial, length, day, code),
+            _ => calls::enter(words, &mut scratch, serial, length),
         };
     }
-    words
 }
 
 /// One of about twice as many serials as there is room for cards.
@@ -56,6 +92,7 @@ fn edited(random: &mut Random, words: &[u32]) -> Vec<u32> {
         6 | 7 => (0..2).for_each(|_| edit(random, &mut copy)),
         8 => double(random, &mut copy),
         9 => lose(random, &mut copy),
+        10 => rebound(random, &mut copy),
         _ => edit(random, &mut copy),
     }
     copy
@@ -80,6 +117,16 @@ fn edit(random: &mut Random, words: &mut [u32]) {
         4 => random.below(24) as u32,
         _ => random.word(),
     };
+}
+
+/// Another format, or other bounds, in range or not.
+fn rebound(random: &mut Random, words: &mut [u32]) {
+    let (upper, lower) = (random.below(13) as u32, random.below(7) as u32);
+    match random.below(4) {
+        0 => words[FORMAT_AT] = random.below(4) as u32,
+        1 => fresh::set_first_format(words),
+        _ => words[BOUNDS_AT] = Bounds { upper, lower }.word(),
+    }
 }
 
 /// Where the words of a card cell begin.

@@ -5,11 +5,12 @@
 //! judge; `bench_reference verdicts` reads such stores and judges them; `bench_reference report` makes the report over the stores of
 //! standard input.
 mod edits;
+mod fresh;
 mod near;
 mod report;
 mod stores;
 
-use frames::{Done, Program, CARDS, FAULTS, OUT};
+use frames::{Done, Program, CARDS, FAULTS, LOWER, OUT, UPPER};
 use reference::job::{self, Tally};
 use reference::layout::Offsets;
 use reference::lists::Limits;
@@ -32,7 +33,7 @@ impl Reference {
 
 impl Program for Reference {
     fn open(&mut self) {
-        calls::open(&mut self.words, CARDS, FAULTS);
+        calls::open(&mut self.words, CARDS, FAULTS, UPPER, LOWER);
     }
 
     fn job(&mut self, text: &[u8], out: &mut Vec<u8>) -> Done {
