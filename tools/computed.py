@@ -132,7 +132,7 @@ def main():
     out.append("first-after : List ℕ\nfirst-after = %s\n" % numbers(in_format_one(after)))
     out.append(claim("first-sound", "Layout.sound first-before", "true", "open-all first-before"))
     out.append(claim("first-with-bounds", "Layout.sound (set first-before 14 1026)", "false", "open-all first-before"))
-    out.append(claim("first-whole", "Job.job first-before (replicate 384 7) worked-in worked-out (%s)" % tally(),
+    out.append(claim("first-whole", "Job.job first-before (replicate 384 7) worked-in (replicate %d 1) (%s)" % (len(WORKED_OUT), tally()),
                      "(record { number = 0; lines = 9; bytes = %d; words = first-after; out = worked-out; scratch = replicate 384 0; tally = %s })"
                      % (len(WORKED_OUT), tally(2, 1, 1, 0, 0, 10)), "open-all tallied worked-in worked-out first-before first-after"))
     # the third answer does not fit: two lines stand, the fault is not filed

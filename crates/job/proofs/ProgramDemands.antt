@@ -200,7 +200,7 @@ module _ (w : List ℕ) (ok : sound w ≡ true) (ms : List Made) (a : AllMeet w 
   end-words = same-words w ms a ∙ deeds-run w ok (map askedIn ms)
 
   pub program-top : bucketsIn (endWords w ms) ≤ topOf (shapeOf (endWords w ms))
-  program-top = rw end-words (top-holds (run w cs) (sound-run w ok cs) .1)
+  program-top = rw end-words (top-holds (run w cs) (sound-run w ok cs))
 
   pub program-for-life : NoneOpened (seenOf ms) → SameTerms w (endWords w ms)
   program-for-life n = rw end-words (kept-for-life w ok cs (rw (← (same-events w ok ms a)) n))

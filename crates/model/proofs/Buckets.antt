@@ -1,10 +1,10 @@
--- When the table grows and when it contracts, over any bounds, read off the words (`buckets-by-the-rules`): one bucket more exactly after an accepted entry with which the cards are more than
--- U for each bucket, where there are fewer than the most; one fewer exactly after an accepted withdrawal with which they are fewer than L for each, where there are more than sixteen; as many
--- after every other call. So no sound store has more than the most buckets (`top-holds`), however many cards it holds: the rule says so, the limits alone would not. And no call but
--- an accepted Open changes the format or the bounds (`kept-for-life`): a store of format 1 stays one.
+-- When the table grows and when it contracts, over any bounds, read off the words (`buckets-by-the-rules`). Of the four calls, one bucket more exactly after an accepted entry with which the
+-- cards are more than U for each bucket, where there are fewer than the most; one fewer exactly after an accepted withdrawal with which they are fewer than L for each, where there are more
+-- than sixteen; as many after any other. So no sound store has more than the most buckets (`top-holds`), however many cards it holds: the rule says so, the limits alone would not. And no
+-- call but an accepted Open changes the format or the bounds (`kept-for-life`): a store of format 1 stays one.
 use Prim.Native.Nat.{ℕ, _+_, _*_, _≤_, _<_}
 use mathlib.Core.Path.{_≡_, refl, sym, ap, _∙_}
-use mathlib.Core.Logic.{_⊎_, ⊎-elim}
+use mathlib.Core.Logic.{⊎-elim}
 use mathlib.Core.List.{List, [], _∷_, _++_}
 use mathlib.Core.Bool.{true, cond}
 use native.Mathlib.Omega.{arith}
@@ -19,9 +19,9 @@ use Rattle.model.specs.Shape.{Shape, topOf}
 use Rattle.model.specs.Model.{Card, Store, cards, held, size, over, under, split, grown, contract, shrunk, placed, entered, filed, removed, withdrawn}
 use Rattle.model.specs.Layout.{formatAt, maxpAt, pAt, heldAt, boundsAt, boundsWord, shapeOf, encode, decodeAs, decode, sound}
 use Rattle.model.specs.Meaning.{bucketsIn}
-use Rattle.model.specs.Runs.{Act, Act.enter, Act.file, Act.show, Act.withdraw, perform, Call, Call.opening, Call.acting, outcome, wordsAfter, run, Event, Event.opened, Event.answered, eventsOf, events}
+use Rattle.model.specs.Runs.{Act, Act.enter, Act.file, Act.show, Act.withdraw, perform, Call, Call.opening, Call.acting, outcome, wordsAfter, run, Event, Event.opened, Event.answered, events}
 use Rattle.model.proofs.Sums.{length-total}
-use Rattle.model.proofs.Fair.{Fair, Good, size-least}
+use Rattle.model.proofs.Fair.{Fair, Good}
 use Rattle.model.proofs.Rep.{rep-encode}
 use Rattle.model.proofs.Readings.{maxp-at, p-at, held-at}
 use Rattle.model.proofs.Sound.{sound-good}
@@ -31,6 +31,7 @@ use Rattle.model.proofs.Growth.{split-total, split-size, contract-total
 use Rattle.model.proofs.Valid.{valid-serial}
 use Rattle.model.proofs.Cases.{enter-cases, file-cases, show-cases, withdraw-cases}
 use Rattle.model.proofs.Demand3.{good-act}
+use Rattle.model.proofs.Refused.{refused-call}
 use Rattle.model.proofs.Outcomes.{open-cases, call-cases, sound-call, shape-call, sound-run}
 
 -- b′ buckets where there were b, with n cards held after an entry
@@ -50,6 +51,11 @@ ByTheRules (enter bytes k) sh n b b′ = Grows sh n b b′
 ByTheRules (file bytes k day code) sh n b b′ = b′ ≡ b
 ByTheRules (show bytes k room) sh n b b′ = b′ ≡ b
 ByTheRules (withdraw bytes k room) sh n b b′ = Shrinks sh n b b′
+
+-- a call that was answered by k
+pub record Reorganises (a : Act) (sh : Shape) (k n b b′ : ℕ) : Type 0 where
+  pub done : k ≡ 0 → ByTheRules a sh n b b′
+  pub refused : (k ≡ 0 → ⊥) → b′ ≡ b
 
 -- of a store
 
@@ -95,10 +101,10 @@ module _ (s : Store) (g : Good s) where
 -- of words
 
 module _ (w : List ℕ) (ok : sound w ≡ true) where
-  pub buckets-by-the-rules : (scratch : List ℕ) (a : Act) → let o = outcome w scratch a in o .answer .number ≡ 0
+  done-buckets : (scratch : List ℕ) (a : Act) → let o = outcome w scratch a in o .answer .number ≡ 0
       → ByTheRules a (shapeOf w) (getD (o .words) heldAt 0) (bucketsIn w) (bucketsIn (o .words))
   unfolding decodeAs
-  buckets-by-the-rules scratch a =
+  done-buckets scratch a =
       let g = sound-good w ok .0 in
       let s = perform (decode w) a .store in
       let r = rep-encode s (good-act (decode w) g a .fair) in
@@ -106,9 +112,11 @@ module _ (w : List ℕ) (ok : sound w ≡ true) where
       (λ h e. absurd (omega arith))
       (λ h e. rw (held-at (encode s) s r, maxp-at (encode s) s r, p-at (encode s) s r) (act-buckets (decode w) g a e))
 
-  pub top-holds : (least ≤ bucketsIn w) × (bucketsIn w ≤ topOf (shapeOf w))
-  unfolding decodeAs
-  top-holds = (size-least (decode w) (sound-good w ok .0 .fair), state-of (topOf (shapeOf w)) (getD w maxpAt 0) (getD w pAt 0) (sound-means w .0 ok .state) .room)
+  pub buckets-by-the-rules : (scratch : List ℕ) (a : Act) → let o = outcome w scratch a in Reorganises a (shapeOf w) (o .answer .number) (getD (o .words) heldAt 0) (bucketsIn w) (bucketsIn (o .words))
+  buckets-by-the-rules scratch a = record { done = done-buckets scratch a; refused = λ h. ap bucketsIn (refused-call w scratch a h .0) }
+
+  pub top-holds : bucketsIn w ≤ topOf (shapeOf w)
+  top-holds = state-of (topOf (shapeOf w)) (getD w maxpAt 0) (getD w pAt 0) (sound-means w .0 ok .state) .room
 
 -- no accepted Open is among some events
 abbrev pub NoneOpened : List Event → Type 0

@@ -104,7 +104,7 @@ first-with-bounds : Layout.sound (set first-before 14 1026) ≡ false
 unfolding open-all first-before
 first-with-bounds = refl
 
-first-whole : Job.job first-before (replicate 384 7) worked-in worked-out (tallied 0 0 0 0 0 0) ≡ (record { number = 0; lines = 9; bytes = 86; words = first-after; out = worked-out; scratch = replicate 384 0; tally = tallied 2 1 1 0 0 10 })
+first-whole : Job.job first-before (replicate 384 7) worked-in (replicate 86 1) (tallied 0 0 0 0 0 0) ≡ (record { number = 0; lines = 9; bytes = 86; words = first-after; out = worked-out; scratch = replicate 384 0; tally = tallied 2 1 1 0 0 10 })
 unfolding open-all tallied worked-in worked-out first-before first-after
 first-whole = refl
 

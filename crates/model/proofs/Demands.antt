@@ -120,7 +120,7 @@ shape-of-the-last-open w t e cs =
     let o = opened-fresh w t e in
     rw (o .1) (shape-run (encode (fresh (shapeFor t))) (fresh-sound (shapeFor t) (o .0)) t (fresh-shape t (o .0)) cs)
 
--- so has the fault limit in `room`
+-- so the fault limit in `room` is the one that it was asked for
 pub limit-of-the-last-open : (w : List ℕ) (t : Terms) → openCall w t .number ≡ 0 → (cs : List Call)
     → decode (run (openCall w t .words) cs) .shape .faultLimit ≡ lastTerms (openCall w t .words) t cs .faults
 unfolding shapeFor

@@ -191,7 +191,7 @@ is-load s g =
     (λ e. rw e)
     (λ e. rw e (le-leb (s .shape .lower * size s) (held s) (g .low (omega (arith, size-least s (g .fair), eqb-false (size s) least e))))))
 
--- in format 1 a store has at most four cards a bucket, the table with most buckets too: the card limit is four times those
+-- with the upper bound of format 1 a store has at most four cards a bucket, the table with most buckets too: the card limit is four times those
 pub high-four : (s : Store) → Good s → s .shape .upper ≡ firstUpper → held s ≤ firstUpper * size s
 high-four s g four =
     let k = shaped (s .shape) (g .fair .shape) in

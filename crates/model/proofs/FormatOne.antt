@@ -1,7 +1,7 @@
--- Words of format 1 are sound exactly where they were before there were bounds (`format-one`): the clauses of `Sound` at 4 and 2 are those of document 01, one by one. Two need a
--- word: no more than four cards a bucket holds at 256 buckets too, where `Sound` asks nothing, since the card limit is 1,024 (`high-four`); and word 14 is 0.
+-- Words of format 1 are sound exactly where they were before there were bounds (`format-one`): the clauses of `Sound` at 4 and 2 are those of document 01, one by one. One needs a
+-- word: no more than four cards a bucket holds at 256 buckets too, where `Sound` asks nothing, since the card limit is 1,024 (`high-four`).
 use Prim.Native.Nat.{ℕ, _*_, _≤_}
-use mathlib.Core.Path.{_≡_, refl, sym, ap, _∙_, subst}
+use mathlib.Core.Path.{_≡_, refl, sym, ap, subst}
 use mathlib.Core.Logic.{_↔_, inr}
 use mathlib.Core.Bool.{true}
 use mathlib.Core.List.{List}
@@ -9,8 +9,8 @@ use native.Mathlib.Omega.{arith}
 use lib.ListN.{getD}
 use Rattle.rules.proofs.Tests.{all-of}
 use Rattle.model.specs.Shape.{Shape, entries, cardWidth, mostCards, mostFaults}
-use Rattle.model.specs.Layout.{formatAt, boundsAt, heldAt, firstUpper, firstLower, upperBy, lowerBy, limitsOk, boundsOk, formatOk, boundsWord, ruleWord, shapeOk, shapeOf, cardsAt, faultsAt, lengthFor, cellAt, cardWord, faultWord, decodeAs, decode, sound}
-use Rattle.model.specs.Meaning.{bucketsIn, bucketCells, freeCells, historyCells, freeFaultCells, heldCells, filedCells, bytesIn, serialIn, SoundAs, Sound}
+use Rattle.model.specs.Layout.{boundsAt, firstFormat, firstUpper, firstLower, upperBy, lowerBy, limitsOk, boundsOk, formatOk, boundsWord, ruleWord, shapeOk, shapeOf, cardsAt, faultsAt, lengthFor, cellAt, cardWord, faultWord, decodeAs, decode, sound}
+use Rattle.model.specs.Meaning.{bucketCells, freeCells, historyCells, freeFaultCells, heldCells, filedCells, bytesIn, serialIn, SoundAs}
 use Rattle.model.specs.FormatOne.{word1, cards1, faults1, buckets1, Sound1}
 use Rattle.model.proofs.Shapes.{limits-fit, bounds-fit, shaped}
 use Rattle.model.proofs.Fair.{high-four}
@@ -20,19 +20,20 @@ use Rattle.model.proofs.Meaning.{sound-means}
 
 -- the shape of format 1 with these limits
 abbrev shape1 : List ℕ → Shape
-shape1 w = record { format = 1; limit = cards1 w; faultLimit = faults1 w; upper = firstUpper; lower = firstLower }
+shape1 w = record { format = firstFormat; limit = cards1 w; faultLimit = faults1 w; upper = firstUpper; lower = firstLower }
 
-shape-told : (w : List ℕ) → getD w formatAt 0 ≡ 1 → shapeOf w ≡ shape1 w
+shape-told : (w : List ℕ) → word1 w 0 ≡ 1 → shapeOf w ≡ shape1 w
 unfolding shapeOf
 shape-told w e = λ i. record { format = e i; limit = cards1 w; faultLimit = faults1 w; upper = upperBy (e i) (getD w boundsAt 0); lower = lowerBy (e i) (getD w boundsAt 0) }
 
 module _ (w : List ℕ) where
   -- the clauses of `Sound` are document 01's
-  clauses-are : SoundAs (shape1 w) w → word1 w 5 ≤ 4 * buckets1 w → Sound1 w
+  clauses-are : word1 w 0 ≡ 1 → SoundAs (shape1 w) w → word1 w 5 ≤ 4 * buckets1 w → Sound1 w
   unfolding entries cardWidth mostCards mostFaults boundsWord ruleWord cardsAt faultsAt lengthFor cellAt cardWord faultWord bucketCells freeCells historyCells freeFaultCells heldCells filedCells bytesIn serialIn
-  clauses-are m four =
+  clauses-are e m four =
       let s = shaped (shape1 w) (m .shape) in
       record {
+        format = e;
         limit = (s .some, s .most);
         faultLimit = (s .someFaults, s .mostFaults);
         state = m .state;
@@ -71,11 +72,11 @@ module _ (w : List ℕ) where
       all-of {a = limitsOk (shape1 w)} {b = boundsOk (shape1 w)}
       (limits-fit (shape1 w) (m .limit .0) (m .limit .1) (m .faultLimit .0) (m .faultLimit .1)) (bounds-fit (shape1 w) (omega arith) (omega arith) (omega arith) (omega arith))
 
-  are-clauses : getD w formatAt 0 ≡ 1 → Sound1 w → SoundAs (shape1 w) w
+  are-clauses : Sound1 w → SoundAs (shape1 w) w
   unfolding entries cardWidth boundsWord ruleWord cardsAt faultsAt lengthFor cellAt cardWord faultWord bucketCells freeCells historyCells freeFaultCells heldCells filedCells bytesIn serialIn
-  are-clauses e m =
+  are-clauses m =
       record {
-        formatWord = e;
+        formatWord = m .format;
         limitWord = refl;
         faultLimitWord = refl;
         shape = shape-ok m;
@@ -114,14 +115,14 @@ module _ (w : List ℕ) where
       }
 
   -- no more than four a bucket, at 256 buckets too
-  four-a-bucket : getD w formatAt 0 ≡ 1 → sound w ≡ true → word1 w 5 ≤ 4 * buckets1 w
+  four-a-bucket : word1 w 0 ≡ 1 → sound w ≡ true → word1 w 5 ≤ 4 * buckets1 w
   unfolding decodeAs
   four-a-bucket e ok =
       let h = high-four (decode w) (sound-good w ok .0) (ap (λ (sh : Shape). sh .upper) (shape-told w e)) in
       omega (arith, h, held-at w (decode w) (sound-is w ok .0))
 
-  pub format-one : getD w formatAt 0 ≡ 1 → (sound w ≡ true) ↔ Sound1 w
-  format-one e = (
-    λ ok. clauses-are (subst (λ (sh : Shape). SoundAs sh w) (shape-told w e) (sound-means w .0 ok)) (four-a-bucket e ok),
-    λ m. sound-means w .1 (subst (λ (sh : Shape). SoundAs sh w) (sym (shape-told w e)) (are-clauses e m)),
+  pub format-one : ((word1 w 0 ≡ 1) × (sound w ≡ true)) ↔ Sound1 w
+  format-one = (
+    λ (e, ok). clauses-are e (subst (λ (sh : Shape). SoundAs sh w) (shape-told w e) (sound-means w .0 ok)) (four-a-bucket e ok),
+    λ m. (m .format, sound-means w .1 (subst (λ (sh : Shape). SoundAs sh w) (sym (shape-told w (m .format))) (are-clauses m))),
   )

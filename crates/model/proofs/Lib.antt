@@ -38,11 +38,11 @@ pub mod Demand2
 pub mod Outcomes
 pub mod WordNumbers
 pub mod Demands
-pub mod Buckets
 pub mod Counts
 pub mod Deeds
 pub mod Jobs
 pub mod Refused
+pub mod Buckets
 -- What the definitions mean, in the words of document 01
 pub mod Valid
 pub mod Fields

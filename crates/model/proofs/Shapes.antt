@@ -1,6 +1,6 @@
--- What a shape fixes, as facts: `shaped` takes the test apart, and a shape is read back from its words (`shape-read`). No other law looks at
--- the numbers of a format: those that need one cite `width-least`, `entries-some`, `top-most`, `cards-top`, `cards-ever`, `faults-ever`, `need-ever`, `marks-fit` or
--- `limits-fit`, and for the words of a cell `card-fills`, `new-fills` or `free-fills`.
+-- What a shape fixes, as facts: `shaped` takes the test apart, and a shape is read back from its words (`shape-read`). But for FormatOne, which is about the numbers of one format, no other
+-- law looks at such a number: those that need one cite `width-least`, `entries-some`, `top-most`, `cards-top`, `cards-ever`, `faults-ever`, `need-ever`, `marks-fit`, `limits-fit`,
+-- `bounds-mean` or `bounds-fit`, and for the words of a cell `card-fills`, `new-fills` or `free-fills`.
 use mathlib.Core.Path.{_≡_, refl, sym, _∙_}
 use mathlib.Core.Logic.{_⊎_, _↔_, inl, inr, ⊎-elim}
 use mathlib.Core.Bool.{true, _&&_}
@@ -16,7 +16,7 @@ use Rattle.model.specs.Bounds.{leastWidth, mostWidth, leastEntries, card
 use Rattle.model.specs.Lists.{between}
 use Rattle.model.specs.Shape.{Shape, entries, topOf, cardWidth, mostCards, mostFaults, faultsEver, need}
 use Rattle.model.specs.Model.{Card}
-use Rattle.model.specs.Layout.{formatAt, limitAt, faultLimitAt, boundsAt, leastUpper, mostUpper, firstUpper, firstLower, upperBy, lowerBy, cardCell, limitsOk, boundsOk, formatOk, boundsWord, shapeOk, shapeOf}
+use Rattle.model.specs.Layout.{formatAt, limitAt, faultLimitAt, boundsAt, leastUpper, mostUpper, firstFormat, secondFormat, firstUpper, firstLower, upperBy, lowerBy, cardCell, limitsOk, boundsOk, formatOk, boundsWord, shapeOk, shapeOf}
 use Rattle.model.specs.Words.{newWords}
 use Rattle.model.proofs.Lists.{between-is}
 
@@ -121,7 +121,7 @@ pub record Shaped (sh : Shape) : Type 0 where
   pub mostFaults : sh .faultLimit ≤ mostFaults sh
   pub marks : sh .limit + sh .faultLimit ≤ 8 * need sh
   pub bounds : BoundsMean (sh .upper) (sh .lower)
-  pub known : (sh .format ≡ 2) ⊎ ((sh .format ≡ 1) × (sh .upper ≡ firstUpper) × (sh .lower ≡ firstLower))
+  pub known : (sh .format ≡ secondFormat) ⊎ ((sh .format ≡ firstFormat) × (sh .upper ≡ firstUpper) × (sh .lower ≡ firstLower))
 
 pub shaped : (sh : Shape) → shapeOk sh ≡ true → Shaped sh
 unfolding shapeOk formatOk limitsOk
@@ -138,14 +138,14 @@ shaped sh e =
       mostFaults = n .1;
       marks = marks-fit sh (b .0);
       bounds = bounds-mean sh .0 (b .1);
-      known = ⊎-elim (λ t. inl (eqb-true (sh .format) 2 t)) (λ t. inr (old t)) (either (eqb (sh .format) 2) _ (a .0));
+      known = ⊎-elim (λ t. inl (eqb-true (sh .format) secondFormat t)) (λ t. inr (old t)) (either (eqb (sh .format) secondFormat) _ (a .0));
     }
   where
-    old : (eqb (sh .format) 1 && (eqb (sh .upper) firstUpper && eqb (sh .lower) firstLower)) ≡ true → (sh .format ≡ 1) × (sh .upper ≡ firstUpper) × (sh .lower ≡ firstLower)
+    old : (eqb (sh .format) firstFormat && (eqb (sh .upper) firstUpper && eqb (sh .lower) firstLower)) ≡ true → (sh .format ≡ firstFormat) × (sh .upper ≡ firstUpper) × (sh .lower ≡ firstLower)
     old t =
-        let a = both (eqb (sh .format) 1) (eqb (sh .upper) firstUpper && eqb (sh .lower) firstLower) t in
+        let a = both (eqb (sh .format) firstFormat) (eqb (sh .upper) firstUpper && eqb (sh .lower) firstLower) t in
         let b = both (eqb (sh .upper) firstUpper) (eqb (sh .lower) firstLower) (a .1) in
-        (eqb-true (sh .format) 1 (a .0), eqb-true (sh .upper) firstUpper (b .0), eqb-true (sh .lower) firstLower (b .1))
+        (eqb-true (sh .format) firstFormat (a .0), eqb-true (sh .upper) firstUpper (b .0), eqb-true (sh .lower) firstLower (b .1))
 
 -- the limits within the bounds over all formats
 pub few-cards : (sh : Shape) → shapeOk sh ≡ true → sh .limit ≤ cardsEver
@@ -159,7 +159,7 @@ bounds-read : (sh : Shape) → shapeOk sh ≡ true → (upperBy (sh .format) (bo
 unfolding boundsWord
 bounds-read sh ok = go (shaped sh ok .known)
   where
-    go : (sh .format ≡ 2) ⊎ ((sh .format ≡ 1) × (sh .upper ≡ firstUpper) × (sh .lower ≡ firstLower))
+    go : (sh .format ≡ secondFormat) ⊎ ((sh .format ≡ firstFormat) × (sh .upper ≡ firstUpper) × (sh .lower ≡ firstLower))
         → (upperBy (sh .format) (boundsWord sh) ≡ sh .upper) × (lowerBy (sh .format) (boundsWord sh) ≡ sh .lower)
     go (inl e) = let m = shaped sh ok .bounds in rw e (omega (arith, m .ten, m .half), omega (arith, m .ten, m .half))
     go (inr (e, u, l)) = rw e (sym u, sym l)

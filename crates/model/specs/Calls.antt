@@ -9,7 +9,7 @@ use Rattle.model.specs.Shape.{Shape, need}
 use Rattle.model.specs.Serial.{validSerial, validFault}
 use Rattle.model.specs.Model.{Fault, Store, held, faultsHeld, chainFor, found, comparisons, placed, removed, splitScan, contractScan, fresh, entered, filed, historyIn, withdrawn}
 use Rattle.model.specs.Numbers.{badLimits, badBounds, badLength, notSound, badSerial, badFault, alreadyHeld, notHeld, cardsFull, faultsFull, shortRoom, shortScratch}
-use Rattle.model.specs.Layout.{limitsOk, boundsOk, lengthFor, encode, decode, sound, shapeOf}
+use Rattle.model.specs.Layout.{secondFormat, limitsOk, boundsOk, lengthFor, encode, decode, sound, shapeOf}
 
 pub record Answer : Type 0 where
   pub number : ℕ
@@ -125,7 +125,7 @@ pub record Terms : Type 0 where
   pub lower : ℕ
 
 unfoldable pub shapeFor : Terms → Shape
-shapeFor t = record { format = 2; limit = t .cards; faultLimit = t .faults; upper = t .upper; lower = t .lower }
+shapeFor t = record { format = secondFormat; limit = t .cards; faultLimit = t .faults; upper = t .upper; lower = t .lower }
 
 -- Open tests 1, then 15, then 2
 pub record Opened : Type 0 where

@@ -1,5 +1,5 @@
 -- What document 01 asks of a sound store, clause by clause, in its own numbers: format 1, with no word for its bounds. No later format moves a line of this page. That
--- words of format 1 are sound exactly where these clauses hold is `format-one` in proofs/FormatOne.antt.
+-- sound words of format 1 are exactly those for which these clauses hold is `format-one` in proofs/FormatOne.antt.
 use Prim.Native.Nat.{ℕ, _+_, _-_, _*_, _≤_, _<_}
 use mathlib.Core.Path.{_≡_}
 use mathlib.Core.Logic.{_⊎_}
@@ -70,6 +70,7 @@ serial1 w i = take (card1 w i 1) (bytes1 w i)
 
 pub record Sound1 (w : List ℕ) : Type 0 where
   -- the header agrees with the layout
+  pub format : word1 w 0 ≡ 1
   pub limit : (1 ≤ cards1 w) × (cards1 w ≤ 1024)
   pub faultLimit : (1 ≤ faults1 w) × (faults1 w ≤ 2048)
   pub state : stateOk 256 (word1 w 3) (word1 w 4) ≡ true
@@ -94,7 +95,7 @@ pub record Sound1 (w : List ℕ) : Type 0 where
   pub different : (i j : ℕ) → In i (held1 w) → In j (held1 w) → serial1 w i ≡ serial1 w j → i ≡ j
   pub serials : (i : ℕ) → In i (held1 w) → serialOk (serial1 w i) ≡ true
   pub faults : (i k : ℕ) → In i (held1 w) → In k (history1 w i) → validFault (fault1 w k 1) (fault1 w k 2) ≡ true
-  -- padding, free cells (but for their next words) and bucket words from B on are zero
+  -- padding, free cells (but for their next words), unused segments and bucket words from B on are zero
   pub padding : (i : ℕ) → In i (held1 w) → all (eqb 0) (drop (card1 w i 1) (bytes1 w i)) ≡ true
   pub freeZero : (i k : ℕ) → In i (free1 w) → 1 ≤ k → k < 9 → card1 w i k ≡ 0
   pub freeFaultsZero : (i k : ℕ) → In i (freeFaults1 w) → 1 ≤ k → k < 3 → fault1 w i k ≡ 0

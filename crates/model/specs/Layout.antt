@@ -131,7 +131,13 @@ mostUpper = 10
 unfoldable pub boundsOk : Shape → Bool
 boundsOk sh = between leastUpper mostUpper (sh .upper) && (leb 1 (sh .lower) && leb (2 * sh .lower) (sh .upper))
 
--- the formats: format 1 means the bounds 4 and 2, and has no word for them; format 2 has any, in word 14
+-- the formats: the first means the bounds 4 and 2, and has no word for them; the second has any, in word 14
+abbrev pub firstFormat : ℕ
+firstFormat = 1
+
+abbrev pub secondFormat : ℕ
+secondFormat = 2
+
 abbrev pub firstUpper : ℕ
 firstUpper = 4
 
@@ -139,14 +145,14 @@ abbrev pub firstLower : ℕ
 firstLower = 2
 
 unfoldable pub formatOk : Shape → Bool
-formatOk sh = eqb (sh .format) 2 || (eqb (sh .format) 1 && (eqb (sh .upper) firstUpper && eqb (sh .lower) firstLower))
+formatOk sh = eqb (sh .format) secondFormat || (eqb (sh .format) firstFormat && (eqb (sh .upper) firstUpper && eqb (sh .lower) firstLower))
 
 -- word 14: 0 in format 1, else 256 U + L
 abbrev pub upperUnit : ℕ
 upperUnit = 256
 
 unfoldable pub boundsWord : Shape → ℕ
-boundsWord sh = cond (eqb (sh .format) 1) 0 (upperUnit * sh .upper + sh .lower)
+boundsWord sh = cond (eqb (sh .format) firstFormat) 0 (upperUnit * sh .upper + sh .lower)
 
 unfoldable pub ruleWord : Shape → ℕ
 ruleWord sh = 0
@@ -157,10 +163,10 @@ shapeOk sh = formatOk sh && (limitsOk sh && boundsOk sh)
 
 -- the bounds that a format and a word 14 tell
 abbrev pub upperBy : ℕ → ℕ → ℕ
-upperBy format word = cond (eqb format 1) firstUpper (word / upperUnit)
+upperBy format word = cond (eqb format firstFormat) firstUpper (word / upperUnit)
 
 abbrev pub lowerBy : ℕ → ℕ → ℕ
-lowerBy format word = cond (eqb format 1) firstLower (word % upperUnit)
+lowerBy format word = cond (eqb format firstFormat) firstLower (word % upperUnit)
 
 -- the shape that words tell
 unfoldable pub shapeOf : List ℕ → Shape

@@ -21,7 +21,7 @@ use Rattle.model.proofs.Demand2.{Agrees, bookOf, emptyBook}
 use Rattle.model.proofs.Look.{look}
 use Rattle.model.proofs.Listed.{Listed}
 use Rattle.model.proofs.Outcomes.{sound-run}
-use Rattle.model.proofs.Buckets.{ByTheRules, NoneOpened, SameTerms, buckets-by-the-rules, top-holds, kept-for-life}
+use Rattle.model.proofs.Buckets.{Reorganises, NoneOpened, SameTerms, buckets-by-the-rules, top-holds, kept-for-life}
 use Rattle.model.proofs.Demands.{termsAfter, lastTerms, limit-of-the-last-open, Demand3, Demand2, demand3, demand2, demand2-from}
 use Rattle.store.specs.Leaves.{Opens}
 use Rattle.store.specs.Sequences.{Given, Made, Meets, AllMeet, endWords, seen, seenOf, termsBy, lastAsked, toldOf}
@@ -131,14 +131,14 @@ program-demand2 w₀ w t o ms a =
 pub program-demand2-from : (w : List ℕ) → sound w ≡ true → (ms : List Made) → AllMeet w ms → AsList w (bookOf (decode w)) ms
 program-demand2-from w ok ms a = as-list w (bookOf (decode w)) ms a (demand2-from w ok (callsOf ms))
 
--- the table, over any bounds, read off the words that the program left: a call that it answered by 0 made one bucket more, one fewer or none exactly by the rules
-pub program-buckets : (w : List ℕ) → sound w ≡ true → (scratch : List ℕ) (a : Act) (g : Given) → Meets w (acting scratch a) g → g .answer .number ≡ 0
-    → ByTheRules a (shapeOf w) (getD (g .words) heldAt 0) (bucketsIn w) (bucketsIn (g .words))
-program-buckets w ok scratch a g e z = rw (e .words-are) (buckets-by-the-rules w ok scratch a (sym (e .answer .number-is) ∙ z))
+-- the table, over any bounds, read off the words that the program left: a call made one bucket more, one fewer or none exactly by the rules
+pub program-buckets : (w : List ℕ) → sound w ≡ true → (scratch : List ℕ) (a : Act) (g : Given) → Meets w (acting scratch a) g
+    → Reorganises a (shapeOf w) (g .answer .number) (getD (g .words) heldAt 0) (bucketsIn w) (bucketsIn (g .words))
+program-buckets w ok scratch a g e = rw (e .words-are, e .answer .number-is) (buckets-by-the-rules w ok scratch a)
 
 -- from any sound store on there are never more than the most buckets
 pub program-top : (w : List ℕ) → sound w ≡ true → (ms : List Made) → AllMeet w ms → bucketsIn (endWords w ms) ≤ topOf (shapeOf (endWords w ms))
-program-top w ok ms a = rw (same-words w ms a) (top-holds (run w (callsOf ms)) (sound-run w ok (callsOf ms)) .1)
+program-top w ok ms a = rw (same-words w ms a) (top-holds (run w (callsOf ms)) (sound-run w ok (callsOf ms)))
 
 -- and where no Open was answered by 0 among the calls, the words for the format and the bounds stay
 pub program-for-life : (w : List ℕ) → sound w ≡ true → (ms : List Made) → AllMeet w ms → NoneOpened (seenOf ms) → SameTerms w (endWords w ms)

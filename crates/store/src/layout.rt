@@ -29,8 +29,8 @@ const FIRST_UPPER: u32 = 4;
 
 const FIRST_LOWER: u32 = 2;
 
-// The format that Open makes. Its upper bound is LEAST_UPPER to MOST_UPPER; word 14 has it UPPER_UNIT times, and the lower bound added.
-const FORMAT: u32 = 2;
+// Format 2, which Open makes. Its upper bound is LEAST_UPPER to MOST_UPPER; word 14 has it UPPER_UNIT times, and the lower bound added.
+const SECOND_FORMAT: u32 = 2;
 
 const LEAST_UPPER: u32 = 2;
 
@@ -130,7 +130,7 @@ pub fn shape_for(cards: u32, faults: u32, upper: u32, lower: u32) -> Shape
     ensures { λ r. ⌜ shapeBy r ≡ shapeFor (asked cards faults upper lower) ⌝ }
 {
     Shape {
-        format: FORMAT,
+        format: SECOND_FORMAT,
         cards,
         faults,
         upper,
@@ -173,7 +173,7 @@ fn format_ok(s: Shape) -> bool
     let format = s.format;
     let upper = s.upper;
     let lower = s.lower;
-    if format == FORMAT {
+    if format == SECOND_FORMAT {
         return true;
     }
     if format != FIRST_FORMAT {

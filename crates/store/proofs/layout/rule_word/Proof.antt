@@ -1,4 +1,4 @@
--- `layout::rule_word` meets its contract: format 1 has no word for the spelling.
+-- `layout::rule_word` meets its contract: no format has a word for the spelling yet, and word 15 is 0.
 use mathlib.Core.Path.{refl}
 use Rattle.model.specs.Layout.{ruleWord}
 use Rattle.store.proofs.layout.rule_word.Statement.{statement}
