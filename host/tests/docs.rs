@@ -6,9 +6,10 @@ use std::fs;
 use std::path::{Path, PathBuf};
 
 /// The documents that cite names.
-const DOCUMENTS: [&str; 8] = [
+const DOCUMENTS: [&str; 9] = [
     "README.md",
     "docs/AUDIT.md",
+    "docs/BOUNDS.md",
     "docs/CHECKER.md",
     "docs/CLAIMS.md",
     "docs/DECISIONS.md",

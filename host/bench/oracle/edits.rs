@@ -1,9 +1,9 @@
 //! Sound stores of several bounds, each with copies of it that have an edit or two.
-use crate::fresh::{self, Bounds, BOUNDS_AT, FORMAT_AT};
 use reference::calls::{self, SCRATCH};
-use reference::layout::{Offsets, CARD_WORDS};
-use reference::lists::Limits;
+use reference::layout::{self, Offsets, CARD_WORDS};
+use reference::lists::{Format, Limits, Store};
 use reference::random::Random;
+use reference::rules::Bounds;
 use reference::serial::WIDTH;
 
 const SEED: u64 = 20_260_705;
@@ -43,19 +43,19 @@ pub fn stores() -> Vec<Vec<u32>> {
     let mut random = Random::new(SEED);
     let mut stores = Vec::new();
     for shape in &SHAPES {
-        let words = fresh::words(shape.limits, shape.bounds);
-        stores.extend(called_and_edited(&mut random, words, shape));
+        let store = Store::fresh(shape.limits, shape.bounds);
+        stores.extend(called_and_edited(&mut random, &store, shape));
     }
     for shape in &IN_FIRST_FORMAT {
-        let mut words = fresh::words(shape.limits, shape.bounds);
-        fresh::set_first_format(&mut words);
-        stores.extend(called_and_edited(&mut random, words, shape));
+        let store = Store { format: Format::One, ..Store::fresh(shape.limits, shape.bounds) };
+        stores.extend(called_and_edited(&mut random, &store, shape));
     }
     stores
 }
 
 /// The store after its calls, and the edited copies.
-fn called_and_edited(random: &mut Random, mut words: Vec<u32>, shape: &Shape) -> Vec<Vec<u32>> {
+fn called_and_edited(random: &mut Random, store: &Store, shape: &Shape) -> Vec<Vec<u32>> {
+    let mut words = layout::encode(store);
     call(random, &mut words, shape);
     let copies: Vec<Vec<u32>> = (0..shape.copies).map(|_| edited(random, &words)).collect();
     [vec![words], copies].concat()
@@ -123,9 +123,9 @@ fn edit(random: &mut Random, words: &mut [u32]) {
 fn rebound(random: &mut Random, words: &mut [u32]) {
     let (upper, lower) = (random.below(13) as u32, random.below(7) as u32);
     match random.below(4) {
-        0 => words[FORMAT_AT] = random.below(4) as u32,
-        1 => fresh::set_first_format(words),
-        _ => words[BOUNDS_AT] = Bounds { upper, lower }.word(),
+        0 => words[0] = random.below(4) as u32,
+        1 => [words[0], words[14]] = Format::One.words(),
+        _ => words[14] = Format::Two(Bounds { upper, lower }).words()[1],
     }
 }
 

@@ -5,7 +5,6 @@
 //! judge; `bench_reference verdicts` reads such stores and judges them; `bench_reference report` makes the report over the stores of
 //! standard input.
 mod edits;
-mod fresh;
 mod near;
 mod report;
 mod stores;

@@ -1,12 +1,10 @@
 //! Stores that are sound but for one rule, and the sound ones beside them: limits and bounds out of range, formats and states that
 //! are none, loads over the bounds and under them, and a card in a bucket that is not its own.
-use crate::fresh::{self, Bounds, BOUNDS_AT, FORMAT_AT};
 use reference::layout;
-use reference::lists::{Limits, Store};
-use reference::rules::State;
+use reference::lists::{Format, Limits, Store};
+use reference::rules::{Bounds, State};
 use reference::serial::Serial;
 
-const USUAL: Bounds = Bounds { upper: 4, lower: 2 };
 const SMALL: Limits = Limits { cards: 3, faults: 3 };
 
 /// Bounds in range, and out of it: an upper bound under 2 or over 10, a lower bound of 0 or over half the upper one.
@@ -62,16 +60,12 @@ fn withdraw(store: &mut Store, number: usize) {
 
 /// A fresh store, also with limits that Open would refuse.
 fn with_limits((cards, faults): (u32, u32)) -> Store {
-    let mut store = fresh::lists(SMALL, USUAL);
-    store.limits = Limits { cards, faults };
-    store.free_cards = (1..=cards).collect();
-    store.free_faults = (1..=faults).collect();
-    store
+    Store::fresh(Limits { cards, faults }, Bounds::USUAL)
 }
 
 /// A store that grows with `first` cards, and then comes to hold `cards` without growing or contracting any more.
 fn with_load(bounds: Bounds, first: usize, cards: usize) -> Store {
-    let mut store = fresh::lists(Limits { cards: 1_024, faults: 2 }, bounds);
+    let mut store = Store::fresh(Limits { cards: 1_024, faults: 2 }, bounds);
     for number in 0..first {
         enter(&mut store, number);
         store.grow();
@@ -99,14 +93,12 @@ fn at_top() -> Vec<Store> {
 }
 
 fn in_first_format(store: &Store) -> Vec<u32> {
-    let mut words = layout::encode(store);
-    fresh::set_first_format(&mut words);
-    words
+    layout::encode(&Store { format: Format::One, ..store.clone() })
 }
 
 /// One card, so many buckets from its own.
 fn away_from_home(buckets: usize) -> Store {
-    let mut store = fresh::lists(SMALL, USUAL);
+    let mut store = Store::fresh(SMALL, Bounds::USUAL);
     let serial = serial(7);
     store.place((store.home(&serial) + buckets) % 16, serial);
     store
@@ -114,20 +106,19 @@ fn away_from_home(buckets: usize) -> Store {
 
 /// A fresh store but for its state.
 fn with_state((maxp, p): (u32, u32)) -> Vec<u32> {
-    let mut store = fresh::lists(SMALL, USUAL);
+    let mut store = Store::fresh(SMALL, Bounds::USUAL);
     store.state = State { maxp, p };
     layout::encode(&store)
 }
 
 /// A fresh store but for its bounds.
 fn with_bounds((upper, lower): (u32, u32)) -> Vec<u32> {
-    with_format((2, Bounds { upper, lower }.word()))
+    layout::encode(&Store::fresh(SMALL, Bounds { upper, lower }))
 }
 
 /// A fresh store but for its format and its word of bounds.
 fn with_format((format, bounds): (u32, u32)) -> Vec<u32> {
-    let mut words = fresh::words(SMALL, USUAL);
-    words[FORMAT_AT] = format;
-    words[BOUNDS_AT] = bounds;
+    let mut words = layout::encode(&Store::fresh(SMALL, Bounds::USUAL));
+    (words[0], words[14]) = (format, bounds);
     words
 }

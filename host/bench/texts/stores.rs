@@ -1,10 +1,10 @@
 //! Stores for a report, the same in each run: a head, lengths and words, as README.md tells.
 use frames::{LOWER, UPPER};
-use reference::layout::{self, Offsets};
+use reference::layout;
 use reference::lists::{Entry, Limits, Store};
 use reference::random::Random;
+use reference::rules::Bounds;
 use reference::serial::Serial;
-use reference::{calls, sound};
 
 const SEED: u64 = 1_000_003;
 
@@ -70,7 +70,7 @@ fn codes(random: &mut Random, count: usize) -> Vec<u32> {
 }
 
 fn store(random: &mut Random, load: &Load, codes: &[u32]) -> Store {
-    let mut store = fresh(load.limits);
+    let mut store = Store::fresh(load.limits, Bounds { upper: UPPER, lower: LOWER });
     let serials: Vec<Serial> = (0..load.cards).map(|_| enter(random, &mut store)).collect();
     for _ in 0..load.faults {
         let search = store.search(&serials[random.below(serials.len())]);
@@ -78,12 +78,6 @@ fn store(random: &mut Random, load: &Load, codes: &[u32]) -> Store {
         store.file(search.bucket, search.place.expect("the card was entered"), entry);
     }
     store
-}
-
-fn fresh(limits: Limits) -> Store {
-    let mut words = vec![0; Offsets::of(limits).end];
-    calls::open(&mut words, limits.cards, limits.faults, UPPER, LOWER);
-    sound::read(&words).expect("a fresh store is sound")
 }
 
 /// Enters a card with a serial that is not held yet.

@@ -6,6 +6,7 @@
 //! words into lists if they are sound ([`sound`]), works on the lists ([`operations`]) and writes all words anew ([`layout`]).
 //! So no operation here follows or mends a chain of cells; it is the layout alone that knows of cells and of next words.
 
+pub mod bounds;
 pub mod calls;
 pub mod damages;
 pub mod job;

@@ -1,7 +1,8 @@
 //! `reference depot` reads standard input and writes what the program `depot` must write for it. `reference jobs FOLDER` writes jobs
 //! there, NAME.in, and what `depot` must write for each, NAME.out. `reference soundness` writes what the program `store_soundness`
 //! must write. `reference calls` reads a script and writes what the program `store_calls` must write for it. `reference runs` does the
-//! same for `list_runs`, and `reference run-cases` writes the script for it.
+//! same for `list_runs`, and `reference run-cases` writes the script for it. `reference bounds` writes what load bounds cost, as
+//! the rows of a table.
 use std::env;
 use std::fs;
 use std::io::{self, Read, Write};
@@ -16,11 +17,12 @@ fn main() -> io::Result<()> {
         [word] if word == "calls" => reference::script::report(&String::from_utf8_lossy(&input()?)).into_bytes(),
         [word] if word == "runs" => reference::runs::told(&String::from_utf8_lossy(&input()?)).into_bytes(),
         [word] if word == "run-cases" => reference::run_cases::script().into_bytes(),
+        [word] if word == "bounds" => (reference::bounds::rows().join("\n") + "\n").into_bytes(),
         _ => {
             eprintln!(
                 "usage: reference depot <JOB, reference jobs FOLDER, reference soundness, reference calls <SCRIPT,"
             );
-            eprintln!("reference runs <SCRIPT, or reference run-cases");
+            eprintln!("reference runs <SCRIPT, reference run-cases, or reference bounds");
             process::exit(2);
         }
     };

@@ -138,10 +138,14 @@ fn random_day(random: &mut Random) -> u32 {
     }
 }
 
-/// A call on one of `serials` serials, many of which differ only in leading zeros. `leaning` turns it to entries or to withdrawals.
+/// The serial of a number. Many of them differ only in leading zeros, and below 300 no two are the same.
+fn numbered(number: usize) -> String {
+    format!("{:0width$}", number / 3, width = 1 + number % 3 * 2)
+}
+
+/// A call on one of the first `serials` serials. `leaning` turns it to entries or to withdrawals.
 fn random_call(random: &mut Random, serials: usize, leaning: usize) -> Call {
-    let number = random.below(serials);
-    let serial = format!("{:0width$}", number / 3, width = 1 + number % 3 * 2);
+    let serial = numbered(random.below(serials));
     match random.below(10) {
         0..=2 => Call::File(serial, random_day(random), random.word() % 10_500),
         3 => Call::Show(serial),
@@ -279,24 +283,30 @@ fn stores_that_grow_and_contract() {
     }
 }
 
-/// Every pair of bounds, and a store of format 1 beside every third of them.
+/// Entries one by one up to 18 buckets under this upper bound, calls at random, and withdrawals until no card is left.
+fn up_and_down(upper: usize, seed: u64) -> Vec<Call> {
+    const SHORT_WAVE: usize = 150;
+    let serials = 30 * upper;
+    let entered = (0..17 * upper + 3).map(numbered).map(Call::Enter);
+    let mixed = random_calls(&mut Random::new(seed), serials, 2 * SHORT_WAVE, SHORT_WAVE);
+    let withdrawn = (0..serials).map(numbered).map(Call::Withdraw);
+    entered.chain(mixed).chain(withdrawn).collect()
+}
+
+/// Every pair of bounds, and format 1: each grows by two buckets at least, and ends with its 16.
 #[test]
 fn stores_of_any_bounds() {
-    const SHORT_WAVE: usize = 500;
-    let calls = |serials, seed| random_calls(&mut Random::new(seed), serials, 2 * SHORT_WAVE, SHORT_WAVE);
     let pairs = (2..=10).flat_map(|upper| (1..=upper / 2).map(move |lower| (upper, lower)));
-    let (mut splits, mut contractions) = (0, 0);
-    for (seed, (upper, lower)) in (301..).zip(pairs) {
-        let (cards, bounds) = (20 * upper + seed as u32 % 7, (upper as usize, lower as usize));
-        let reader = Reader::open_with(cards, 60, upper, lower);
-        let mut met = vec![hold_calls_to_the_book(reader, bounds, calls(30 * upper as usize, seed))];
-        if seed % 3 == 0 {
-            met.push(hold_calls_to_the_book(Reader::format_1(90, 60), (4, 2), calls(150, seed)));
-        }
-        splits += met.iter().map(|met| met.splits).sum::<usize>();
-        contractions += met.iter().map(|met| met.contractions).sum::<usize>();
+    let of_pair = |(upper, lower)| (Reader::open_with(20 * upper, 60, upper, lower), (upper as usize, lower as usize));
+    let stores: Vec<(Reader, (usize, usize))> =
+        pairs.map(of_pair).chain([(Reader::format_1(80, 60), (4, 2))]).collect();
+    assert_eq!(stores.len(), 26);
+    for (seed, (reader, bounds)) in (301..).zip(stores) {
+        let format = reader.words[0];
+        let Met { splits, contractions, .. } = hold_calls_to_the_book(reader, bounds, up_and_down(bounds.0, seed));
+        let met = format!("{splits} splits, {contractions} contractions with {bounds:?} in format {format}");
+        assert!(splits >= 2 && contractions == splits, "{met}");
     }
-    assert!(splits > 100 && contractions > 100, "{splits} splits, {contractions} contractions");
 }
 
 /// 256 buckets with more cards than the upper bound allows: they are filled, called at random, and emptied.
@@ -323,24 +333,34 @@ fn answer_line(call: &Call, numbers: [u32; 4], room: &[u32]) -> String {
     numbers.map(|number| number.to_string()).join(" ") + &pairs.collect::<String>()
 }
 
-/// A job leaves the words, and gives the answers, of its calls one by one.
+/// A job leaves the words, and gives the answers, of its calls one by one. Each store gets a job of entries and one of withdrawals.
 #[test]
 fn a_job_is_its_calls() {
-    let mut random = Random::new(7);
-    let calls = random_calls(&mut random, 300, 1_000, WAVE);
-    let text: String = calls.iter().map(job_line).collect();
-    let mut single = Reader::open(256, 512);
-    let answers = calls.iter().map(|call| {
-        let numbers = answer(&mut single, call);
-        answer_line(call, numbers, &single.room)
-    });
-    let answers: Vec<String> = answers.collect();
+    let pairs = [(4, 2), (2, 1), (10, 5)].map(|(upper, lower)| Reader::open_with(256, 512, upper, lower));
+    pairs.into_iter().chain([Reader::format_1(256, 512)]).for_each(jobs_are_their_calls);
+}
 
-    let mut reader = Reader::open(256, 512);
-    let mut out = vec![0; 100_000];
-    let done = job::run(&mut reader.words, &mut [0; calls::SCRATCH], text.as_bytes(), &mut out, &mut Tally::default());
-    assert_eq!((done.number, done.lines as usize), (0, calls.len()));
-    assert_eq!(reader.words, single.words);
-    let output = String::from_utf8(out[..done.bytes as usize].to_vec()).unwrap();
-    assert_eq!(output.lines().collect::<Vec<_>>(), answers);
+/// One copy of the store gets the calls one by one, the other as jobs.
+fn jobs_are_their_calls(mut reader: Reader) {
+    let mut single = reader.clone();
+    let calls = random_calls(&mut Random::new(7), 300, 2 * WAVE, WAVE);
+    let opened = format!("opened as {:?}", &reader.words[..16]);
+    let mut tally = Tally::default();
+    for calls in calls.chunks(WAVE) {
+        let text: String = calls.iter().map(job_line).collect();
+        let answers = calls.iter().map(|call| {
+            let numbers = answer(&mut single, call);
+            answer_line(call, numbers, &single.room)
+        });
+        let answers: Vec<String> = answers.collect();
+
+        let mut out = vec![0; 100_000];
+        let done = job::run(&mut reader.words, &mut [0; calls::SCRATCH], text.as_bytes(), &mut out, &mut tally);
+        assert_eq!((done.number, done.lines as usize), (0, calls.len()), "{opened}");
+        assert!(reader.words == single.words, "other words, {opened}");
+        let output = String::from_utf8(out[..done.bytes as usize].to_vec()).unwrap();
+        assert_eq!(output.lines().collect::<Vec<_>>(), answers, "{opened}");
+    }
+    let Tally { splits, contractions, .. } = tally;
+    assert!(splits > 0 && contractions > 0, "{splits} splits, {contractions} contractions, {opened}");
 }

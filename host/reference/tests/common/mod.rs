@@ -6,6 +6,7 @@ use reference::lists::Store;
 use reference::operations::Answer;
 use reference::sound;
 
+#[derive(Clone)]
 pub struct Reader {
     pub words: Vec<u32>,
     pub room: Vec<u32>,
