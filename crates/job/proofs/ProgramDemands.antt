@@ -4,7 +4,8 @@
 -- (`same-words`, `same-events`, `same-tells`), and the model's theorems hold of what the program gave and wrote.
 -- One line of a job that was answered: where its answer stands in the output (`line-said`), when a filing is answered by 9 (`filing-answered`),
 -- and that the pairs in the answer of a Show or a Withdraw list the card's history (`showing-answered`, `withdrawing-answered`).
--- The table has no more than the most buckets (`program-top`), and without an accepted Open format and bounds stay (`program-for-life`).
+-- Limits and bounds are those that the last accepted Open was asked for (`program-shape`). The table has no more than the most buckets
+-- (`program-top`), and without an accepted Open format and bounds stay (`program-for-life`).
 use mathlib.Core.Path.{_≡_, refl, sym, ap, _∙_}
 use mathlib.Core.Logic.{_↔_}
 use mathlib.Core.Bool.{true}
@@ -14,7 +15,7 @@ use native.Mathlib.Omega.{arith}
 use lib.ListN.{length, take, drop, getD}
 use lib.Seq.{length-take-le, take-take, take-at, getD-take}
 use Rattle.model.specs.Serial.{validSerial, validFault}
-use Rattle.model.specs.Shape.{topOf}
+use Rattle.model.specs.Shape.{Shape, topOf}
 use Rattle.model.specs.Layout.{shapeOf, sound, decodeAs, decode}
 use Rattle.model.specs.Meaning.{bucketsIn}
 use Rattle.model.specs.Calls.{Answer, Step, Terms, shapeFor, openCall}
@@ -30,15 +31,15 @@ use Rattle.model.proofs.Look.{look}
 use Rattle.model.proofs.Listed.{ByDay, Listed}
 use Rattle.model.proofs.Outcomes.{sound-run}
 use Rattle.model.proofs.Buckets.{NoneOpened, SameTerms, top-holds, kept-for-life}
-use Rattle.model.proofs.Deeds.{job-calls, said-at, deed-run, deeds-run, deeds-demand3, deeds-demand2, deeds-demand2-from, filing-line, showing-line, withdrawing-line}
+use Rattle.model.proofs.Deeds.{shape-lines, job-calls, said-at, deed-run, deeds-run, deeds-demand3, deeds-demand2, deeds-demand2-from, filing-line, showing-line, withdrawing-line}
 use Rattle.model.proofs.Heard.{events-append, tells-append, said-seen, said-told, seen-before, number-read, pairs-read}
 use Rattle.model.proofs.Jobs.{lines-few}
 use Rattle.store.specs.Leaves.{Opens}
 use Rattle.store.specs.Sequences as Calls
 use Rattle.store.proofs.ProgramDemands as Program
-use Rattle.store.proofs.ProgramDemands.{left-words, opened-words, shown-listed, withdrawn-listed}
+use Rattle.store.proofs.ProgramDemands.{left-words, shape-left, opened-words, shown-listed, withdrawn-listed}
 use Rattle.job.specs.Counts.{tallyOf}
-use Rattle.job.specs.Sequences.{Left, Works, Made, Made.called, Made.worked, askedIn, leftBy, Meets, AllMeet, endWords, linesDone, linesWritten, seen, seenOf, told, toldOf, callsTo, callsToAll}
+use Rattle.job.specs.Sequences.{Left, Works, Made, Made.called, Made.worked, askedIn, leftBy, Meets, AllMeet, endWords, linesDone, linesWritten, seen, seenOf, termsBy, lastAsked, told, toldOf, callsTo, callsToAll}
 use Rattle.job.specs.declared.tally.Tally.{Tally}
 
 -- a text stands in an output behind another
@@ -141,6 +142,12 @@ module _ (w : List ℕ) (ok : sound w ≡ true) where
   told-is (worked scratch text out t l) e =
       job-told w ok scratch text out t l e ∙ ap (λ (n : ℕ). tells w (callsOf (shapeOf w) (take n (linesOf text)))) (e .lines-are)
 
+  -- no line of a job opens, so a job leaves the shape that was there
+  shape-is : (t : Terms) → shapeOf w ≡ shapeFor t → (m : Made) → Meets w m → shapeOf (leftBy m) ≡ shapeFor (termsBy t m)
+  shape-is t h (called m) e = shape-left w ok t h (m .call) (m .gives) e
+  shape-is t h (worked scratch text out tally l) e =
+      rw (job-says w ok scratch text out tally l e .0) (shape-lines w ok (shapeOf w) (linesDone text l) ∙ h)
+
   -- a list of the same shape is asked the same
   calls-are : (b : Book) → Agrees b (decode w) → (m : Made) → Meets w m → callsTo b m ≡ callsIn w (askedIn m)
   unfolding decodeAs
@@ -166,6 +173,10 @@ same-tells w ok (m ∷ ms) a =
     let d = askedIn m in
     rw (told-is w ok m (a .0), tells-append w (callsIn w d) (callsInAll (wordsBy w d) (map askedIn ms)), ← (deed-run w ok d), ← (left-is w m (a .0)))
     (ap (λ (ts : List Tell). tells w (callsIn w d) ++ ts) (same-tells (leftBy m) (left-sound w ok m (a .0)) ms (a .1)))
+
+same-shape : (w : List ℕ) → sound w ≡ true → (t : Terms) → shapeOf w ≡ shapeFor t → (ms : List Made) → AllMeet w ms → shapeOf (endWords w ms) ≡ shapeFor (lastAsked t ms)
+same-shape w ok t h [] a = h
+same-shape w ok t h (m ∷ ms) a = same-shape (leftBy m) (left-sound w ok m (a .0)) (termsBy t m) (shape-is w ok t h m (a .0)) ms (a .1)
 
 -- a list that agrees with the store goes on doing so, and is asked the same calls
 same-calls : (w : List ℕ) → sound w ≡ true → (b : Book) → Agrees b (decode w) → (ms : List Made) → AllMeet w ms → callsToAll b ms ≡ callsInAll w (map askedIn ms)
@@ -215,6 +226,10 @@ module _ (w₀ w : List ℕ) (asked : Terms) (o : Opens (openCall w₀ asked) 0 
       let e = opened-words w₀ w asked o in
       rw (same-words w ms a, same-events w opened-sound ms a, e .1) (deeds-demand3 w₀ asked (e .0) (map askedIn ms))
 
+  -- the words tell the limits and the bounds that the last accepted Open was asked for
+  pub program-shape : shapeOf (endWords w ms) ≡ shapeFor (lastAsked asked ms)
+  program-shape = same-shape w opened-sound asked (Program.program-shape w₀ w asked o [] tt) ms a
+
   -- a further Show, or Withdraw, that was answered by 0: what it gave and left lists the history of the serial
   pub program-shown : (scratch bytes room : List ℕ) (n : ℕ) (g : Calls.Given) → Calls.Meets (endWords w ms) (acting scratch (Act.show bytes n room)) g
       → g .answer .number ≡ 0 → Listed (history (take n bytes) (seenOf ms) []) room (g .answer .faults) (g .room)
@@ -260,14 +275,19 @@ module _ (w₀ w : List ℕ) (asked : Terms) (o : Opens (openCall w₀ asked) 0 
         rw (events-append w cs (callsOf (shapeOf v) earlier), same-events w opened-sound ms a, seen-earlier v (program-demand3 .stays-sound) scratch text out t l e k h)
         (ap (λ (u : List ℕ). events w cs ++ events u (callsOf (shapeOf v) earlier)) r)
 
+    limit-reached : decode reached .shape .faultLimit ≡ lastAsked asked ms .faults
+    unfolding decodeAs shapeFor
+    limit-reached =
+        ap (λ (sh : Shape). sh .faultLimit) (shape-lines (endWords w ms) (program-demand3 .stays-sound) (shapeOf (endWords w ms)) earlier ∙ program-shape)
+
     -- if it files a fault, with a valid serial that is held and a day and code in range, the number written in its answer line is 9 exactly when faults
-    -- accepted less faults gone are the fault limit
+    -- accepted less faults gone are the fault limit that the last accepted Open was asked for
     pub filing-answered : (field : List ℕ) (day code : ℕ) → lineOf line ≡ Line.file field day code
         → validSerial (padded field) (length field) ≡ true → validFault day code ≡ true → length (look (decode reached) (take (length field) (padded field))) ≡ 1
-        → (numberIn (getD (linesWritten l) k []) ≡ 9) ↔ (since taken seenBefore 0 - since gone seenBefore 0 ≡ decode reached .shape .faultLimit)
+        → (numberIn (getD (linesWritten l) k []) ≡ 9) ↔ (since taken seenBefore 0 - since gone seenBefore 0 ≡ lastAsked asked ms .faults)
     filing-answered field day code is =
         let q = opened-words w₀ w asked o in
-        rw (number-written (endWords w ms) (program-demand3 .stays-sound) scratch text out t l e k h, before-events, same-words w ms a, q .1)
+        rw (number-written (endWords w ms) (program-demand3 .stays-sound) scratch text out t l e k h, ← limit-reached, before-events, same-words w ms a, q .1)
         (filing-line w₀ asked (q .0) (map askedIn ms) earlier line field day code is)
 
     -- its step, and its answer line as it was written

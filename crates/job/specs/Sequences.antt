@@ -4,6 +4,7 @@
 use mathlib.Core.List.{List, [], _∷_, _++_}
 use Prim.Native.Nat.{ℕ}
 use lib.ListN.{take}
+use Rattle.model.specs.Calls.{Terms}
 use Rattle.model.specs.Plain.{Book}
 use Rattle.model.specs.Runs.{Call, Event, Tell, bookAfter}
 use Rattle.model.specs.Text.{linesOf}
@@ -70,6 +71,15 @@ seen (worked scratch text out t l) = seenIn (linesDone text l) (linesWritten l)
 abbrev pub seenOf : List Made → List Event
 seenOf [] = []
 seenOf (m ∷ ms) = seen m ++ seenOf ms
+
+-- the terms of the last Open that was accepted, where the store was opened with the terms t before; no job opens a store
+abbrev pub termsBy : Terms → Made → Terms
+termsBy t (called m) = Calls.termsBy t (m .call) (m .gives)
+termsBy t (worked scratch text out tally l) = t
+
+abbrev pub lastAsked : Terms → List Made → Terms
+lastAsked t [] = t
+lastAsked t (m ∷ ms) = lastAsked (termsBy t m) ms
 
 -- what demand 2 compares
 abbrev pub told : Made → List Tell

@@ -1,7 +1,8 @@
--- When the table grows and when it contracts, over any bounds, read off the words (`buckets-by-the-rules`). Of the four calls, one bucket more exactly after an accepted entry with which the
--- cards are more than U for each bucket, where there are fewer than the most; one fewer exactly after an accepted withdrawal with which they are fewer than L for each, where there are more
--- than sixteen; as many after any other. So no sound store has more than the most buckets (`top-holds`), however many cards it holds: the rule says so, the limits alone would not. And no
--- call but an accepted Open changes the format or the bounds (`kept-for-life`): a store of format 1 stays one.
+-- When the table grows and when it contracts, over any bounds, read off the words (`buckets-by-the-rules`). Of the four calls, one bucket
+-- more exactly after an accepted entry with which the cards are more than U for each bucket, where there are fewer than the most; one fewer
+-- exactly after an accepted withdrawal with which they are fewer than L for each, where there are more than sixteen; as many after any
+-- other. So no sound store has more than the most buckets (`top-holds`), however many cards it holds: the rule says so, the limits alone
+-- would not. And no call but an accepted Open changes the format or the bounds (`kept-for-life`): a store of format 1 stays one.
 use Prim.Native.Nat.{ℕ, _+_, _*_, _≤_, _<_}
 use mathlib.Core.Path.{_≡_, refl, sym, ap, _∙_}
 use mathlib.Core.Logic.{⊎-elim}

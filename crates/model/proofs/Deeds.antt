@@ -43,7 +43,7 @@ pub shape-acts : (w : List ℕ) → sound w ≡ true → (scratch : List ℕ) (a
 shape-acts w ok scratch [] = refl
 shape-acts w ok scratch (a ∷ acts) = shape-acts (wordsAfter w (acting scratch a)) (sound-call w ok (acting scratch a)) scratch acts ∙ shape-call w ok scratch a
 
-shape-lines : (w : List ℕ) → sound w ≡ true → (sh : Shape) (xs : List (List ℕ)) → shapeOf (run w (callsOf sh xs)) ≡ shapeOf w
+pub shape-lines : (w : List ℕ) → sound w ≡ true → (sh : Shape) (xs : List (List ℕ)) → shapeOf (run w (callsOf sh xs)) ≡ shapeOf w
 shape-lines w ok sh [] = refl
 shape-lines w ok sh (x ∷ xs) =
     rw (run-append w (callsBy sh x) (callsOf sh xs))

@@ -103,7 +103,8 @@ fresh-shape : (t : Terms) → shapeOk (shapeFor t) ≡ true → shapeOf (encode 
 unfolding fresh
 fresh-shape t ok = let s = fresh (shapeFor t) in shape-at (encode s) s (rep-encode s (fair-fresh (shapeFor t) ok))
 
-shape-after : (w : List ℕ) → sound w ≡ true → (t : Terms) → shapeOf w ≡ shapeFor t → (c : Call) → shapeOf (wordsAfter w c) ≡ shapeFor (termsAfter w t c)
+-- one call leaves the shape that it was asked for, if it is an accepted Open, else the shape that was there
+pub shape-after : (w : List ℕ) → sound w ≡ true → (t : Terms) → shapeOf w ≡ shapeFor t → (c : Call) → shapeOf (wordsAfter w c) ≡ shapeFor (termsAfter w t c)
 shape-after w ok t h (opening u) =
     open-cases w u (λ r. shapeOf (r .words) ≡ shapeFor (cond (eqb (r .number) 0) u t)) (λ v. h) (λ v b. h) (λ o v n. h) (λ o v l. fresh-shape u o)
 shape-after w ok t h (acting scratch a) = shape-call w ok scratch a ∙ h
@@ -112,10 +113,9 @@ shape-run : (w : List ℕ) → sound w ≡ true → (t : Terms) → shapeOf w �
 shape-run w ok t h [] = h
 shape-run w ok t h (c ∷ cs) = shape-run (wordsAfter w c) (sound-call w ok c) (termsAfter w t c) (shape-after w ok t h c) cs
 
--- the store has the limits and the bounds that the last accepted Open was asked for
+-- the words tell the limits and the bounds that the last accepted Open was asked for
 pub shape-of-the-last-open : (w : List ℕ) (t : Terms) → openCall w t .number ≡ 0 → (cs : List Call)
-    → decode (run (openCall w t .words) cs) .shape ≡ shapeFor (lastTerms (openCall w t .words) t cs)
-unfolding decodeAs
+    → shapeOf (run (openCall w t .words) cs) ≡ shapeFor (lastTerms (openCall w t .words) t cs)
 shape-of-the-last-open w t e cs =
     let o = opened-fresh w t e in
     rw (o .1) (shape-run (encode (fresh (shapeFor t))) (fresh-sound (shapeFor t) (o .0)) t (fresh-shape t (o .0)) cs)
@@ -123,7 +123,7 @@ shape-of-the-last-open w t e cs =
 -- so the fault limit in `room` is the one that it was asked for
 pub limit-of-the-last-open : (w : List ℕ) (t : Terms) → openCall w t .number ≡ 0 → (cs : List Call)
     → decode (run (openCall w t .words) cs) .shape .faultLimit ≡ lastTerms (openCall w t .words) t cs .faults
-unfolding shapeFor
+unfolding decodeAs shapeFor
 limit-of-the-last-open w t e cs = ap (λ (sh : Shape). sh .faultLimit) (shape-of-the-last-open w t e cs)
 
 -- demand 2

@@ -1,5 +1,6 @@
--- Words of format 1 are sound exactly where they were before there were bounds (`format-one`): the clauses of `Sound` at 4 and 2 are those of document 01, one by one. One needs a
--- word: no more than four cards a bucket holds at 256 buckets too, where `Sound` asks nothing, since the card limit is 1,024 (`high-four`).
+-- Words of format 1 are sound exactly where they were before there were bounds (`format-one`): the clauses of `Sound` at 4 and 2 are those
+-- of document 01, one by one. One needs a word: no more than four cards a bucket holds at 256 buckets too, where `Sound` asks nothing,
+-- since the card limit is 1,024 (`high-four`).
 use Prim.Native.Nat.{ℕ, _*_, _≤_}
 use mathlib.Core.Path.{_≡_, refl, sym, ap, subst}
 use mathlib.Core.Logic.{_↔_, inr}

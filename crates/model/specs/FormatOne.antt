@@ -1,5 +1,6 @@
--- What document 01 asks of a sound store, clause by clause, in its own numbers: format 1, with no word for its bounds. No later format moves a line of this page. That
--- sound words of format 1 are exactly those for which these clauses hold is `format-one` in proofs/FormatOne.antt.
+-- What document 01 asks of a sound store, clause by clause, in its own numbers: format 1, with no word for its bounds. No later format
+-- moves a line of this page. That sound words of format 1 are exactly those for which these clauses hold is `format-one` in
+-- proofs/FormatOne.antt.
 use Prim.Native.Nat.{ℕ, _+_, _-_, _*_, _≤_, _<_}
 use mathlib.Core.Path.{_≡_}
 use mathlib.Core.Logic.{_⊎_}

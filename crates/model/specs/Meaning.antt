@@ -1,5 +1,5 @@
--- What document 01 asks of a sound store, with the load bounds of request 04, clause by clause, said of the words themselves: `Sound`, of the shape that they tell. That it is what `sound` decides is
--- `sound-means` in proofs/Meaning.antt.
+-- What document 01 asks of a sound store, with the load bounds of request 04, clause by clause, said of the words themselves: `Sound`, of
+-- the shape that they tell. That it is what `sound` decides is `sound-means` in proofs/Meaning.antt.
 use Prim.Native.Nat.{ℕ, _+_, _*_, _≤_, _<_}
 use mathlib.Core.Path.{_≡_}
 use mathlib.Core.Logic.{_⊎_}

@@ -1,7 +1,8 @@
 -- Demands 2 and 3 of the program itself, over every sequence of its calls after an accepted Open. A call that meets its contract gives and
 -- leaves what the model says, by equations; so a sequence of calls that meet theirs is the model's sequence (`same-words`, `same-events`,
 -- `same-tells`), and the model's theorems hold of it. `program-room` is the last sentence of demand 3, of a filing that the program answered;
--- `program-shown` and `program-withdrawn` are what demand 3 says of listings, of a Show and a Withdraw that the program answered. `program-buckets`, `program-top` and
+-- `program-shown` and `program-withdrawn` are what demand 3 says of listings, of a Show and a Withdraw that the program answered.
+-- `program-shape` says that limits and bounds are those that the last accepted Open was asked for. `program-buckets`, `program-top` and
 -- `program-for-life` tell of the table: when it grew or contracted, that it has no more than the most buckets, and that format and bounds stay.
 use mathlib.Core.Path.{_≡_, refl, sym, ap, _∙_}
 use mathlib.Core.Logic.{_↔_}
@@ -11,8 +12,8 @@ use Prim.Native.Nat.{ℕ, _-_, _≤_}
 use lib.Dec.{eqb}
 use lib.ListN.{length, take, getD}
 use Rattle.model.specs.Serial.{validSerial, validFault}
-use Rattle.model.specs.Shape.{topOf, need}
-use Rattle.model.specs.Layout.{heldAt, shapeOf, decode, sound}
+use Rattle.model.specs.Shape.{Shape, topOf, need}
+use Rattle.model.specs.Layout.{heldAt, shapeOf, decodeAs, decode, sound}
 use Rattle.model.specs.Meaning.{bucketsIn}
 use Rattle.model.specs.Calls.{Terms, shapeFor, openCall}
 use Rattle.model.specs.Plain.{Book}
@@ -22,7 +23,7 @@ use Rattle.model.proofs.Look.{look}
 use Rattle.model.proofs.Listed.{Listed}
 use Rattle.model.proofs.Outcomes.{sound-run}
 use Rattle.model.proofs.Buckets.{Reorganises, NoneOpened, SameTerms, buckets-by-the-rules, top-holds, kept-for-life}
-use Rattle.model.proofs.Demands.{termsAfter, lastTerms, limit-of-the-last-open, Demand3, Demand2, demand3, demand2, demand2-from}
+use Rattle.model.proofs.Demands.{termsAfter, lastTerms, shape-after, shape-of-the-last-open, Demand3, Demand2, demand3, demand2, demand2-from}
 use Rattle.store.specs.Leaves.{Opens}
 use Rattle.store.specs.Sequences.{Given, Made, Meets, AllMeet, endWords, seen, seenOf, termsBy, lastAsked, toldOf}
 
@@ -47,6 +48,10 @@ told-is w (acting scratch act) g e = rw (e .answer .number-is, e .answer .faults
 terms-are : (w : List ℕ) (t : Terms) (c : Call) (g : Given) → Meets w c g → termsBy t c g ≡ termsAfter w t c
 terms-are w t (opening u) g e = ap (λ (n : ℕ). cond (eqb n 0) u t) (e .0 .number-is)
 terms-are w t (acting scratch act) g e = refl
+
+-- the shape that the words tell afterwards: the one asked for by an accepted Open, else the one that was there
+pub shape-left : (w : List ℕ) → sound w ≡ true → (t : Terms) → shapeOf w ≡ shapeFor t → (c : Call) (g : Given) → Meets w c g → shapeOf (g .words) ≡ shapeFor (termsBy t c g)
+shape-left w ok t h c g e = ap shapeOf (left-words w c g e) ∙ shape-after w ok t h c ∙ ap shapeFor (sym (terms-are w t c g e))
 
 -- a sequence
 
@@ -104,14 +109,20 @@ same-terms w t (m ∷ ms) a =
     ∙ same-terms (m .gives .words) (termsAfter w t (m .call)) ms (a .1)
     ∙ ap (λ (v : List ℕ). lastTerms v (termsAfter w t (m .call)) (callsOf ms)) e
 
+-- the words tell the limits and the bounds that the last accepted Open was asked for
+pub program-shape : (w₀ w : List ℕ) (t : Terms) → Opens (openCall w₀ t) 0 w → (ms : List Made) → AllMeet w ms → shapeOf (endWords w ms) ≡ shapeFor (lastAsked t ms)
+program-shape w₀ w t o ms a =
+    let q = opened-words w₀ w t o in
+    rw (same-words w ms a, same-terms w t ms a, q .1) (shape-of-the-last-open w₀ t (q .0) (callsOf ms))
+
 -- a further filing, otherwise in order, is answered by 9 exactly when faults accepted less faults gone are the fault limit that the last accepted Open was asked for
 pub program-room : (w₀ w : List ℕ) (t : Terms) → Opens (openCall w₀ t) 0 w → (ms : List Made) → AllMeet w ms
     → (scratch bytes : List ℕ) (n day code : ℕ) (g : Given) → Meets (endWords w ms) (acting scratch (Act.file bytes n day code)) g
     → need (shapeOf (endWords w ms)) ≤ length scratch → validSerial bytes n ≡ true → validFault day code ≡ true → length (look (decode (endWords w ms)) (take n bytes)) ≡ 1
     → (g .answer .number ≡ 9) ↔ (since taken (seenOf ms) 0 - since gone (seenOf ms) 0 ≡ lastAsked t ms .faults)
+unfolding decodeAs shapeFor
 program-room w₀ w t o ms a scratch bytes n day code g e h v u l =
-    let q = opened-words w₀ w t o in
-    let limit : decode (endWords w ms) .shape .faultLimit ≡ lastAsked t ms .faults = rw (same-words w ms a, same-terms w t ms a, q .1) (limit-of-the-last-open w₀ t (q .0) (callsOf ms)) in
+    let limit : decode (endWords w ms) .shape .faultLimit ≡ lastAsked t ms .faults = ap (λ (sh : Shape). sh .faultLimit) (program-shape w₀ w t o ms a) in
     rw (e .answer .number-is, ← limit) (program-demand3 w₀ w t o ms a .room scratch bytes n day code h v u l)
 
 -- each answer is that of a plain list, and the store and the list agree on every serial at the end
