@@ -271,9 +271,8 @@ module _ (w₀ w : List ℕ) (asked : Terms) (o : Opens (openCall w₀ asked) 0 
     before-events =
         let v = endWords w ms in
         let cs = callsInAll w (map askedIn ms) in
-        let r : v ≡ run w cs = same-words w ms a ∙ deeds-run w opened-sound (map askedIn ms) in
         rw (events-append w cs (callsOf (shapeOf v) earlier), same-events w opened-sound ms a, seen-earlier v (program-demand3 .stays-sound) scratch text out t l e k h)
-        (ap (λ (u : List ℕ). events w cs ++ events u (callsOf (shapeOf v) earlier)) r)
+        (ap (λ (u : List ℕ). events w cs ++ events u (callsOf (shapeOf v) earlier)) (end-words w opened-sound ms a))
 
     limit-reached : decode reached .shape .faultLimit ≡ lastAsked asked ms .faults
     unfolding decodeAs shapeFor

@@ -1,8 +1,7 @@
 -- A job is the calls of its answered lines (`job-calls`). A line on sound words gives what its call gives (`line-step`); line by line, a job on the
 -- store that sound words stand for walks with the calls on the words (`lines-run`). So a job leaves sound words sound (`job-sound`), every sequence
--- of calls and jobs leaves the words of a sequence of calls (`deeds-run`), and the demands hold of it (`deeds-demand3`, `deeds-limit-of-the-last-open`,
--- `deeds-demand2`, `deeds-demand2-from`), also at every line in the middle of a job (`at-a-line`, `limit-at-a-line`, `filing-line`,
--- `showing-line`, `withdrawing-line`).
+-- of calls and jobs leaves the words of a sequence of calls (`deeds-run`), and the demands hold of it (`deeds-demand3`, `deeds-demand2`,
+-- `deeds-demand2-from`), also at every line in the middle of a job (`at-a-line`, `filing-line`, `showing-line`, `withdrawing-line`).
 use Prim.Native.Nat.{ℕ, zero, suc, _+_, _-_, _≤_, _<_}
 use mathlib.Core.Path.{_≡_, refl, sym, ap, _∙_, subst}
 use mathlib.Core.Logic.{_↔_}
@@ -15,7 +14,7 @@ use Rattle.rules.proofs.Tests.{by-cases}
 use Rattle.model.specs.Serial.{validSerial, validFault}
 use Rattle.model.specs.Model.{Store}
 use Rattle.model.specs.Shape.{Shape, need}
-use Rattle.model.specs.Layout.{shapeOf, encode, decodeAs, decode, sound}
+use Rattle.model.specs.Layout.{shapeOf, encode, decode, sound}
 use Rattle.model.specs.Calls.{Terms, shapeFor, Step, openCall}
 use Rattle.model.specs.Runs.{Act, perform, Call, Call.acting, wordsAfter, run, events, history, taken, gone, since}
 use Rattle.model.specs.Text.{linesOf}
@@ -28,7 +27,7 @@ use Rattle.model.proofs.Listed.{Listed}
 use Rattle.model.proofs.Demand3.{good-act}
 use Rattle.model.proofs.Demand2.{bookOf, emptyBook}
 use Rattle.model.proofs.Outcomes.{read-back, call-cases, opened-fresh, sound-call, shape-call, sound-run}
-use Rattle.model.proofs.Demands.{Demand3, Demand2, demand3, lastTerms, limit-of-the-last-open, demand2, demand2-from}
+use Rattle.model.proofs.Demands.{Demand3, Demand2, demand3, demand2, demand2-from}
 
 run-append : (w : List ℕ) (cs ds : List Call) → run w (cs ++ ds) ≡ run (run w cs) ds
 run-append w [] ds = refl
@@ -43,6 +42,7 @@ pub shape-acts : (w : List ℕ) → sound w ≡ true → (scratch : List ℕ) (a
 shape-acts w ok scratch [] = refl
 shape-acts w ok scratch (a ∷ acts) = shape-acts (wordsAfter w (acting scratch a)) (sound-call w ok (acting scratch a)) scratch acts ∙ shape-call w ok scratch a
 
+-- no line opens a store, so lines leave the shape that was there
 pub shape-lines : (w : List ℕ) → sound w ≡ true → (sh : Shape) (xs : List (List ℕ)) → shapeOf (run w (callsOf sh xs)) ≡ shapeOf w
 shape-lines w ok sh [] = refl
 shape-lines w ok sh (x ∷ xs) =
@@ -230,10 +230,6 @@ module _ (w₀ : List ℕ) (t : Terms) (accepted : openCall w₀ t .number ≡ 0
   pub deeds-demand3 : (ds : List Deed) → Demand3 (wordsByAll w ds) (events w (callsInAll w ds))
   deeds-demand3 ds = rw (deeds-run w ok ds) (demand3 w₀ t accepted (callsInAll w ds))
 
-  -- the fault limit in it is the one that the last accepted Open was asked for
-  pub deeds-limit-of-the-last-open : (ds : List Deed) → decode (wordsByAll w ds) .shape .faultLimit ≡ lastTerms w t (callsInAll w ds) .faults
-  deeds-limit-of-the-last-open ds = rw (deeds-run w ok ds) (limit-of-the-last-open w₀ t accepted (callsInAll w ds))
-
   pub deeds-demand2 : (ds : List Deed) → Demand2 w (emptyBook (shapeFor t)) (callsInAll w ds) × (wordsByAll w ds ≡ run w (callsInAll w ds))
   deeds-demand2 ds = (demand2 w₀ t accepted (callsInAll w ds), deeds-run w ok ds)
 
@@ -248,13 +244,6 @@ module _ (w₀ : List ℕ) (t : Terms) (accepted : openCall w₀ t .number ≡ 0
   at-a-line ds xs =
       let ls = callsOf (shapeOf (run w (callsInAll w ds))) xs in
       rw (deeds-run w ok ds, ← (run-append w (callsInAll w ds) ls)) (demand3 w₀ t accepted (callsInAll w ds ++ ls))
-
-  -- no line opens, so the fault limit is that of the last Open before the job
-  pub limit-at-a-line : (ds : List Deed) (xs : List (List ℕ)) → decode (reached ds xs) .shape .faultLimit ≡ lastTerms w t (callsInAll w ds) .faults
-  unfolding decodeAs
-  limit-at-a-line ds xs =
-      let v = wordsByAll w ds in
-      ap (λ (sh : Shape). sh .faultLimit) (shape-lines v (deeds-demand3 ds .stays-sound) (shapeOf v) xs) ∙ deeds-limit-of-the-last-open ds
 
   -- a filing line that is reached, on a valid serial that is held, with day and code in range: 9 exactly at the fault limit
   pub filing-line : (ds : List Deed) (xs : List (List ℕ)) (x field : List ℕ) (day code : ℕ) → lineOf x ≡ Line.file field day code

@@ -1,10 +1,11 @@
 -- Demands 2 and 3 of the program itself, over every sequence of its calls after an accepted Open. A call that meets its contract gives and
 -- leaves what the model says, by equations; so a sequence of calls that meet theirs is the model's sequence (`same-words`, `same-events`,
--- `same-tells`), and the model's theorems hold of it. `program-room` is the last sentence of demand 3, of a filing that the program answered;
--- `program-shown` and `program-withdrawn` are what demand 3 says of listings, of a Show and a Withdraw that the program answered.
--- `program-shape` says that limits and bounds are those that the last accepted Open was asked for. `program-buckets`, `program-top` and
--- `program-for-life` tell of the table: when it grew or contracted, that it has no more than the most buckets, and that format and bounds stay.
-use mathlib.Core.Path.{_≡_, refl, sym, ap, _∙_}
+-- `same-tells`), and the model's theorems hold of it. `program-opens` has the numbers of Open, each exactly when. `program-room` is the
+-- last sentence of demand 3, of a filing that the program answered; `program-shown` and `program-withdrawn` are what demand 3 says of
+-- listings, of a Show and a Withdraw that the program answered. `program-shape` says that limits and bounds are those that the last
+-- accepted Open was asked for. `program-buckets`, `program-top` and `program-for-life` tell of the table: when it grew or contracted, that
+-- it has no more than the most buckets, and that format and bounds stay.
+use mathlib.Core.Path.{_≡_, refl, sym, ap, _∙_, subst}
 use mathlib.Core.Logic.{_↔_}
 use mathlib.Core.Bool.{true, cond}
 use mathlib.Core.List.{List, [], _∷_, map}
@@ -21,7 +22,7 @@ use Rattle.model.specs.Runs.{Act, taken, gone, since, Call, Call.opening, Call.
 use Rattle.model.proofs.Demand2.{Agrees, bookOf, emptyBook}
 use Rattle.model.proofs.Look.{look}
 use Rattle.model.proofs.Listed.{Listed}
-use Rattle.model.proofs.Outcomes.{sound-run}
+use Rattle.model.proofs.Outcomes.{sound-run, OpenNumbers, open-numbers}
 use Rattle.model.proofs.Buckets.{Reorganises, NoneOpened, SameTerms, buckets-by-the-rules, top-holds, kept-for-life}
 use Rattle.model.proofs.Demands.{termsAfter, lastTerms, shape-after, shape-of-the-last-open, Demand3, Demand2, demand3, demand2, demand2-from}
 use Rattle.store.specs.Leaves.{Opens}
@@ -71,6 +72,10 @@ same-tells w [] a = refl
 same-tells w (m ∷ ms) a =
     let e = left-words w (m .call) (m .gives) (a .0) in
     rw (told-is w (m .call) (m .gives) (a .0), ← e, same-tells (m .gives .words) ms (a .1))
+
+-- the number that Open gave, each exactly when
+pub program-opens : (w v : List ℕ) (t : Terms) (k : ℕ) → Opens (openCall w t) k v → OpenNumbers w t k
+program-opens w v t k o = subst (OpenNumbers w t) (sym (o .number-is)) (open-numbers w t)
 
 -- the words of an accepted Open
 pub opened-words : (w₀ w : List ℕ) (t : Terms) → Opens (openCall w₀ t) 0 w → (openCall w₀ t .number ≡ 0) × (w ≡ openCall w₀ t .words)
