@@ -1232,6 +1232,7 @@ class LentWalk(Walk):
 
 WALKS = [
     RunWalk(crate="job", function="run", callee_crate="job", callee="work"),
+    RunWalk(crate="card_store", function="reader_job", callee_crate="job", callee="work"),
     LentWalk(crate="reader", function="lent_run", callee_crate="job", callee="run"),
 ]
 

@@ -20,6 +20,7 @@ pub use tally::Tally;
 use text::pieces;
 
 // How a job ended: its number, 0 if all lines were answered, the lines done and the bytes written.
+#[repr(C)]
 pub struct Done {
     pub number: u32,
     pub lines: u32,

@@ -6,6 +6,7 @@ ghost use Rattle.model.specs.Job.{plus, one};
 ghost use Rattle.job.specs.Counts.{tallyOf, entering, withdrawing, filing, countedBy};
 use super::fields::Kind;
 
+#[repr(C)]
 pub struct Tally {
     pub entries: u64,
     pub withdrawals: u64,

@@ -3,6 +3,7 @@ ghost use mathlib.Core.Path.{_≡_};
 ghost use Rattle.store.specs.Leaves.{refusedAnswer};
 
 // The number, the cards compared, the cards scanned by a split or a contraction, and the faults that the card has.
+#[repr(C)]
 pub struct Answer {
     pub number: u32,
     pub comparisons: u32,
@@ -23,6 +24,7 @@ pub fn refuse(number: u32) -> Answer
 }
 
 // What an operation that writes words or bytes gives: its number, and how many it wrote.
+#[repr(C)]
 pub struct Wrote {
     pub number: u32,
     pub count: u32,
