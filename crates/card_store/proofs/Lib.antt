@@ -1,0 +1,3 @@
+-- Laws about the exports, one theme a file
+pub mod Labels
+pub mod OneOutcome
