@@ -1,25 +1,55 @@
-//! The serial code and the address rule of the card store, from Rust. `include/reader.h` says the same for C.
+//! A store of spare circuit cards: each card under the exact bytes of its serial, so that `7`, `07` and `007` are three
+//! cards, and with each card the faults filed against it.
+//!
+//! The store is a proved library, `libcard_store.a`; this crate is a safe interface over it.
+//!
+//! ```
+//! use card_store::{Fault, Limits, Refusal, Store};
+//!
+//! let mut store = Store::new(Limits { cards: 64, faults: 128 })?;
+//! store.enter("7")?;
+//! store.enter("07")?;
+//! store.enter("007")?;
+//! store.file("007", 100, 12)?;
+//!
+//! assert_eq!(store.show("007")?.faults, [Fault { day: 100, code: 12 }]);
+//! assert_eq!(store.show("7")?.faults, []);
+//! assert_eq!(store.enter("7"), Err(Refusal::AlreadyHeld));
+//! # Ok::<(), Refusal>(())
+//! ```
+//!
+//! - [`Store`]: a store with its words and scratch, owned or lent. Its methods give what was asked for, or a [`Refusal`].
+//! - [`report()`]: faults by code over up to eight stores.
+//! - [`calls`]: the same on slices, with each number of an answer and without allocation.
+//! - [`code`] and [`address`]: the serial code and the address rule of the table.
+//!
+//! What every call gives and leaves is stated in `docs/RULES.md`, and the library is proved to keep to it for every input,
+//! damaged words and bad serials included. `docs/RUST.md` is the page to start with. This crate itself is not proved: all
+//! of its `unsafe` code is in one file, `host/src/exported.rs`.
+#![deny(missing_docs, unsafe_code)]
 
-/// What [`address`] returns where maxp and p are no state of a table.
-pub const NO_ADDRESS: u32 = u32::MAX;
+mod answers;
+pub mod calls;
+#[allow(unsafe_code)]
+mod exported;
+mod refusal;
+mod report;
+mod sizes;
+mod store;
+mod terms;
 
-/// The exported functions, as `crates/rules/src/lib.rt` has them. Nothing checks that the two agree but the tests.
-mod exported {
-    extern "C" {
-        // A slice passes as a pointer and then a length.
-        pub fn reader_code(bytes: *const u8, length: usize) -> u32;
-        pub fn reader_address(code: u32, maxp: u32, p: u32) -> u32;
-    }
-}
+pub use answers::{Counts, Fault, Listing};
+pub use exported::{address, code, Tally};
+pub use refusal::Refusal;
+pub use report::report;
+pub use sizes::{
+    store_words, LONGEST_ANSWER, LONGEST_JOB, LONGEST_REPORT, MOST_CARDS, MOST_FAULTS, MOST_STORES, MOST_WORDS,
+    NO_ADDRESS, SCRATCH, SERIAL,
+};
+pub use store::{LentStore, Store};
+pub use terms::{Bounds, Limits};
 
-/// The serial code of any bytes: from 0, for each byte 33 × code + byte, modulo 2^32.
-pub fn code(bytes: &[u8]) -> u32 {
-    // SAFETY: pointer and length are those of a live slice, and the function requires nothing else.
-    unsafe { exported::reader_code(bytes.as_ptr(), bytes.len()) }
-}
-
-/// The bucket of a code in a table with maxp + p buckets, or [`NO_ADDRESS`] where (maxp, p) is no state.
-pub fn address(code: u32, maxp: u32, p: u32) -> u32 {
-    // SAFETY: the function takes three numbers, any numbers.
-    unsafe { exported::reader_address(code, maxp, p) }
-}
+/// The programs of docs/RUST.md, run with the examples of this documentation.
+#[cfg(doctest)]
+#[doc = include_str!("../../docs/RUST.md")]
+struct RustPage;

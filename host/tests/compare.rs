@@ -1,5 +1,5 @@
 //! The library's two functions against the second program's, on inputs chosen at every edge and on random ones.
-use reader_host::{address, code, NO_ADDRESS};
+use card_store::{address, code, NO_ADDRESS};
 use reference::random::Random;
 use reference::rules as second;
 

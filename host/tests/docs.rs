@@ -6,7 +6,7 @@ use std::fs;
 use std::path::{Path, PathBuf};
 
 /// The documents that cite names.
-const DOCUMENTS: [&str; 9] = [
+const DOCUMENTS: [&str; 10] = [
     "README.md",
     "docs/AUDIT.md",
     "docs/BOUNDS.md",
@@ -15,11 +15,39 @@ const DOCUMENTS: [&str; 9] = [
     "docs/DECISIONS.md",
     "docs/REPORT.md",
     "docs/RULES.md",
+    "docs/RUST.md",
     "docs/SHAMS.md",
 ];
 
+/// Where names are declared: folders, and the endings of their files.
+const FILES: [(&str, &str); 7] = [
+    ("crates", "antt"),
+    ("crates", "rt"),
+    ("crates", "edit"),
+    ("host", "rs"),
+    ("host/c", "c"),
+    ("include", "h"),
+    ("tools", "py"),
+];
+
 /// Words in code type that name nothing of the repository: of the language, the tools, and programs' streams.
-const FOREIGN: [&str; 8] = ["apt-get", "ensures", "false", "qemu-user", "requires", "rt", "stdin", "stdout"];
+const FOREIGN: [&str; 15] = [
+    "Cargo.toml",
+    "Mutex",
+    "String",
+    "apt-get",
+    "cargo",
+    "ensures",
+    "false",
+    "gcc-x86-64-linux-gnu",
+    "qemu-user",
+    "requires",
+    "rt",
+    "rustc",
+    "stdin",
+    "stdout",
+    "unsafe",
+];
 
 fn root() -> PathBuf {
     Path::new(env!("CARGO_MANIFEST_DIR")).parent().expect("the repository").to_path_buf()
@@ -55,32 +83,67 @@ fn declared_law(line: &str) -> Option<&str> {
     (declares && !name.starts_with('-')).then_some(name)
 }
 
-/// The names that a file of code declares: what follows these words, the fields of structs, and what it hands on from others.
+fn is_of_word(c: char) -> bool {
+    c.is_ascii_alphanumeric() || c == '_'
+}
+
+/// The word that a piece of text begins with.
+fn first_word(piece: &str) -> String {
+    piece.chars().take_while(|&c| is_of_word(c)).collect()
+}
+
+/// The word that a piece of text ends with.
+fn last_word(piece: &str) -> String {
+    piece.rsplit(|c| !is_of_word(c)).next().unwrap_or_default().to_string()
+}
+
+/// The names that a file of code declares: what follows these words, the fields of structs, the cases of an enum that have
+/// numbers, and what it hands on from others.
 fn declared_code(text: &str, names: &mut BTreeSet<String>) {
-    let word_of =
-        |piece: &str| -> String { piece.chars().take_while(|c| c.is_ascii_alphanumeric() || *c == '_').collect() };
-    for word in ["fn ", "struct ", "enum ", "const ", "mod ", "as ", "pub "] {
-        names.extend(text.match_indices(word).map(|(at, _)| word_of(&text[at + word.len()..])));
+    for word in ["fn ", "struct ", "enum ", "const ", "mod ", "type ", "as ", "pub "] {
+        names.extend(text.match_indices(word).map(|(at, _)| first_word(&text[at + word.len()..])));
     }
+    names.extend(text.lines().filter_map(numbered_case));
     for line in text.lines().filter(|line| line.starts_with("pub use ")) {
-        names.extend(line.rsplit("::").next().map(word_of));
+        names.extend(line.rsplit("::").next().map(first_word));
     }
+}
+
+/// The names that a C file declares: macros, structs and enums, the constants of an enum that have numbers, typedefs, and
+/// functions, whose lines begin at the margin.
+fn declared_c(text: &str, names: &mut BTreeSet<String>) {
+    for word in ["#define ", "struct ", "enum "] {
+        names.extend(text.match_indices(word).map(|(at, _)| first_word(&text[at + word.len()..])));
+    }
+    names.extend(text.lines().filter_map(numbered_case));
+    for line in text.lines().filter(|line| line.starts_with("typedef ") || line.starts_with("} ")) {
+        names.extend(line.split_once(';').map(|(before, _)| last_word(before)));
+    }
+    for line in text.lines().filter(|line| line.starts_with(|c: char| c.is_ascii_alphabetic())) {
+        names.extend(line.split_once('(').map(|(before, _)| last_word(before)));
+    }
+}
+
+/// The name of a line that reads: name = number, with or without the comma.
+fn numbered_case(line: &str) -> Option<String> {
+    let (name, number) = line.trim().split_once(" = ")?;
+    let is_case = name.chars().all(is_of_word) && first_word(number).parse::<u32>().is_ok();
+    is_case.then(|| name.to_string())
 }
 
 /// What each file of the crates, of the hosts and of the tools declares.
 fn declarations() -> BTreeMap<PathBuf, BTreeSet<String>> {
     let mut all = BTreeMap::new();
-    for (folder, ending) in [("crates", "antt"), ("crates", "rt"), ("crates", "edit"), ("host", "rs"), ("tools", "py")]
-    {
+    for (folder, ending) in FILES {
         let mut found = Vec::new();
         files(&root().join(folder), ending, &mut found);
         for path in found {
             let text = read(&path);
             let mut names = BTreeSet::new();
-            if ending == "antt" {
-                names.extend(text.lines().filter_map(declared_law).map(String::from));
-            } else {
-                declared_code(&text, &mut names);
+            match ending {
+                "antt" => names.extend(text.lines().filter_map(declared_law).map(String::from)),
+                "h" | "c" => declared_c(&text, &mut names),
+                _ => declared_code(&text, &mut names),
             }
             all.insert(path, names);
         }
@@ -107,10 +170,10 @@ fn is_name(piece: &str) -> bool {
         && piece.contains(|c: char| c.is_ascii_lowercase())
 }
 
-/// Whether a piece in code type is a file or a folder of the crates or of the hosts, by its path or by a file's name alone.
+/// Whether a piece in code type is a file or a folder of the crates, of the hosts or of the header, by its path or by a file's name alone.
 fn is_place(piece: &str) -> bool {
-    let is_path = ["crates/", "host/"].iter().any(|folder| piece.starts_with(folder));
-    let is_file = [".antt", ".rt", ".rs"].iter().any(|ending| piece.ends_with(ending));
+    let is_path = ["crates/", "host/", "include/"].iter().any(|folder| piece.starts_with(folder));
+    let is_file = [".antt", ".rt", ".rs", ".h", ".c"].iter().any(|ending| piece.ends_with(ending));
     (is_path || is_file) && !piece.contains(char::is_whitespace)
 }
 
@@ -171,7 +234,7 @@ fn short(kind: &str, name: &str) -> Vec<String> {
     let places = match (kind, name, name.split_once('/')) {
         (_, _, Some((owner, name))) => vec![format!("crates/{owner}/{folder}/{name}.{ending}")],
         ("code", "lib", _) => vec!["crates/rules/src/lib.rt".to_string()],
-        ("code", "store" | "job" | "report" | "reader", _) => vec![format!("crates/{name}/src/lib.rt")],
+        ("code", "store" | "job" | "report" | "reader" | "card_store", _) => vec![format!("crates/{name}/src/lib.rt")],
         ("code", _, _) => vec![format!("crates/store/src/{name}.rt")],
         _ => ["rules", "model", "store", "reader"]
             .iter()
@@ -251,6 +314,17 @@ fn cited_edits(text: &str) -> BTreeSet<(String, String)> {
         }
     }
     edits
+}
+
+#[test]
+fn names_of_c_are_known() {
+    let text = "#define A 1\ntypedef struct b {\n    int x;\n} c;\ntypedef int d;\nenum e {\n    F = 2, /* g (h */\n};\nint i(\n    int j);\n";
+    let mut names = BTreeSet::new();
+    declared_c(text, &mut names);
+    for name in ["A", "b", "c", "d", "e", "F", "i"] {
+        assert!(names.contains(name), "{name} is not among {names:?}");
+    }
+    assert!(stands(&declarations(), "reader_code", "include/reader.h"));
 }
 
 #[test]
