@@ -28,11 +28,14 @@ fn run(desk: &mut Desk, random: &mut Random, stock: &mut Stock, text: &[u8], tal
     let wanted =
         job::run(&mut stock.words.clone(), &mut scratch.clone(), text, &mut long, &mut Tally::default()).bytes as usize;
     for length in [wanted.saturating_sub(1), 0] {
-        desk.job(&mut stock.words.clone(), &scratch, text, &made::bytes(length), &mut tally.clone());
+        let short = made::bytes(length);
+        let [number, ..] = desk.job(&mut stock.words.clone(), &scratch, text, &short, &mut tally.clone());
+        assert_eq!(number == 10, wanted > 0, "{length} bytes of output, where {wanted} are wanted");
     }
     let more = made::one_of(random, &[0, 0, 1, 100]);
     let fits = made::bytes(wanted + more);
-    desk.job(&mut stock.words, &scratch, text, &fits, tally);
+    let [number, ..] = desk.job(&mut stock.words, &scratch, text, &fits, tally);
+    assert_ne!(number, 10, "output that is enough");
 }
 
 /// Texts about the longest one, of lines that are answered by 12, by 4 and by 7, and of one line.

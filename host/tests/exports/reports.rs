@@ -28,7 +28,9 @@ fn one_run(desk: &mut Desk, random: &mut Random, words: &[u32], lengths: &[u32])
     let scratch = made::scratch(random);
     let text = report::stores(words, lengths).map(|stores| report::text(&stores)).expect("sound stores");
     for length in [text.len() - 1, text.len(), text.len() + random.below(50), 0] {
-        desk.report(words, lengths, &scratch, &made::bytes(length));
+        let [number, _] = desk.report(words, lengths, &scratch, &made::bytes(length));
+        let fits = length >= text.len();
+        assert!([11, 14, if fits { 0 } else { 10 }].contains(&number), "{number} with {length} bytes");
     }
     let out = made::bytes(text.len() + 20);
     desk.report(words, &odd_lengths(random, lengths), &scratch, &out);
