@@ -18,9 +18,9 @@ pub const SERIAL: usize = 16;
 /// The most bytes of a job's text.
 pub const LONGEST_JOB: usize = 16_384;
 
-/// The most bytes that the answer to one line of a job can have, its LF included: four numbers of 1, 4, 4 and 4 digits with
-/// three spaces between them, and a space, a day, a colon and a code for each fault of the fullest store.
-pub const LONGEST_ANSWER: usize = 13 + 3 + 11 * MOST_FAULTS as usize + 1;
+/// The most bytes that the answer to one line of a job can have, its LF included: four numbers of at most 2, 4, 4 and 4
+/// digits with three spaces between them, and a space, a day, a colon and a code for each fault of the fullest store.
+pub const LONGEST_ANSWER: usize = 18 + 11 * MOST_FAULTS as usize;
 
 /// The most stores of a report.
 pub const MOST_STORES: usize = 8;

@@ -6,10 +6,11 @@ use std::fs;
 use std::path::{Path, PathBuf};
 
 /// The documents that cite names.
-const DOCUMENTS: [&str; 10] = [
+const DOCUMENTS: [&str; 11] = [
     "README.md",
     "docs/AUDIT.md",
     "docs/BOUNDS.md",
+    "docs/C.md",
     "docs/CHECKER.md",
     "docs/CLAIMS.md",
     "docs/DECISIONS.md",
