@@ -139,17 +139,23 @@ fn add(count: &mut u64, more: u64) {
     *count = count.saturating_add(more);
 }
 
+/// A job on the words of a store with the output that `depot` has: its number, and all that is written for it. Where the number is not
+/// 0, a last line tells it.
+pub fn answered(words: &mut [u32], text: &[u8]) -> (u32, Vec<u8>) {
+    let mut out = vec![0; 16_384];
+    let done = run(words, &mut [0; calls::SCRATCH], text, &mut out, &mut Tally::default());
+    out.truncate(done.bytes as usize);
+    if done.number != 0 {
+        out.extend(format!("{} 0 0 0\n", done.number).bytes());
+    }
+    (done.number, out)
+}
+
 /// What the program `depot` writes for this input.
 pub fn depot(input: &[u8]) -> Vec<u8> {
     let limits = Limits { cards: 256, faults: 512 };
     let mut words = vec![0; Offsets::of(limits).end];
     let Bounds { upper, lower } = Bounds::USUAL;
     calls::open(&mut words, limits.cards, limits.faults, upper, lower);
-    let mut out = vec![0; 16_384];
-    let done = run(&mut words, &mut [0; calls::SCRATCH], input, &mut out, &mut Tally::default());
-    out.truncate(done.bytes as usize);
-    if done.number != 0 {
-        out.extend(format!("{} 0 0 0\n", done.number).bytes());
-    }
-    out
+    answered(&mut words, input).1
 }
