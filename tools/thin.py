@@ -1,19 +1,17 @@
 #!/usr/bin/env python3
-"""thin.py: writes the walks by hand of the two thin functions over a tally that is lent by `&mut`.
+"""thin.py: writes the walks by hand of the thin functions that take a tally lent by `&mut`.
 
-  run    fn run(<slices>, t: &mut S) -> Done { let r = work(<slices>, *t); *t = r.FIELD; r.DONE }
-         where work(<slices>, t: S) -> Ran is covered, and Ran holds Done (field 0) and S (field 1)
-  lent   fn lent(<slices>, t: S) -> Ran
-         { let mut u = t; let done = run(<slices>, &mut u); Ran { DONE: done, FIELD: u } }
+  fn run(<slices>, t: &mut S) -> Done { let r = work(<slices>, *t); *t = r.FIELD; r.DONE }
 
-The contracts of the two functions of a pair say the same relation of the same values:
+where work(<slices>, t: S) -> Ran is covered, and Ran holds Done (field 0) and S (field 1). The contracts
+of the two functions say the same relation of the same values:
     ensures { λ r. ⌜ Did (now (x .entry)).. t-at-entry r-done t-at-exit (now (x .exit)).. ⌝ }
 with .exit for the `&mut` slices alone.
 
-`RunWalk` writes the proof file of the first form and `LentWalk` that of the second. What is the same in
-both is in `Walk`; a method writes one part of the file. Every position in a walk is computed from the
-slices that `Walk` lists. Nothing is trusted: antt checks the files that come out. Run it from anywhere,
-then `rt fmt`; it writes the two files, the same each time.
+`Walk` writes the proof file of such a function; a method writes one part of the file. Every position in a
+walk is computed from the slices that it lists. Nothing is trusted: antt checks the files that come out. Run
+it from anywhere, then `rt fmt`; it writes crates/job/proofs/run and crates/card_store/proofs/reader_job, the
+same each time.
 """
 import os
 import re
@@ -27,7 +25,7 @@ LOGIC = "{M : Type 1} (𝓤 : URA M) (H : Heap 𝓤) (A : Atoms 𝓤)"
 GIVEN = LOGIC + " (W : Given 𝓤 H A)"
 PROGRAM = GIVEN + " (at-mem : Memory → SProp 𝓤) (run′ : Routine → Fun 𝓤)"
 
-# The names of the kit. Where `..` stands, a walk puts those that it alone needs (`own_names`).
+# The names of the kit. Where `..` stands come the types of the slices' elements.
 KIT = """
     use mathlib.Core.Path.{_≡_, refl, ap}
     use Prim.Native.Nat.{ℕ}
@@ -39,7 +37,7 @@ KIT = """
     use mir.Syntax.{named}
     use mir.Val.{Val, vptr, WT, hasTy}
     use base.Logic.{SProp, ent, sep, emp, via, fst∗, id⊢}
-    use base.Fml.{GName, Lft, Share, ftrue, fat, flft, ..}
+    use base.Fml.{GName, Lft, Share, ftrue, fat, flft, fobs, fbor}
     use prog.Memory.{Memory}
     use prog.Routine.{Routine}
     use prog.Wp.{Heap, Calls, Loops, WpFn, Tables}
@@ -48,22 +46,20 @@ KIT = """
     use contract.Monad.{Fun, fact}
     use contract.Running.{givenOf, tables, tablesOf}
     use types.Kit.{Given, Item, ‵, raw, _⊛_, ⋆, some, later, _$_, _∵_, !, qed, by, move, keep, drop, use1, use2, \
-        split, join, pick, rewrite, fsplit, fjoin, feqL, suffices, frame, await, done, ..}
+        split, join, pick, rewrite, fsplit, fjoin, feqL, suffices, frame, await, done, fsplit3, fjoin3, feqI}
     use types.Run.{look, init, forget, stop, hop, fld, from, load, addr, of-opd, and-then, no-more, assigns, land, \
-        returns, enter, alloc1, alloc0, params1, pass1, pass0, free1, free0, ..}
+        returns, enter, alloc1, alloc0, params1, pass1, pass0, free1, free0, look-raw, store-raw}
     use types.Part.{agg, whole, sub, look-in}
     use types.SemTy.{Body}
-    use types.Tokens.{..}
     use sound.WpLaws.{FmC, fmOf, WpFn-mono}
     use denote.RattleType.{RattleType, owns}
     use denote.Laws.{Is, shows}
-    use denote.Memory.{mem, ..}
+    use denote.Memory.{mem}
     use denote.Builtin.{..}
-    use denote.Lend.{..}
-    use denote.Ref.{RefT, MutRef, ..}
+    use denote.Ref.{RefT, MutRef, ptr-vals, mut-tells}
     use denote.Slice.{sliceVal, slice-vals, MutSlice, ShrSlice, Room, finally, mut-slice-tells, shr-slice-tells}
     use denote.Signature.{plain, shrSliceOf}
-    use denote.Steps.{only, .., owned, peeks, heard, nothing}
+    use denote.Steps.{only, opens, closes, owned, peeks, heard, nothing}
     use denote.Struct.Steps.{spelt}
     use denote.Struct.Laws as LL
     use denote.Triple.Statement.{Contract, Triple}
@@ -72,7 +68,7 @@ KIT = """
     use denote.Triple.Entry.{onEntry}
     use denote.Triple.Spec.{Meets, tripleOf}
     use denote.Triple.Table.{entered, cited}
-    use denote.Triple.Walked.{says, Stays, .., gave-slice, stay-dropped, walkOf, AllGo, goes-dropped, goes-gave-slice, \
+    use denote.Triple.Walked.{says, Stays, stay-ref, goes-ref, gave-slice, stay-dropped, walkOf, AllGo, goes-dropped, goes-gave-slice, \
         Walks, ends-at, walked, walk-meets}
     use denote.Exit.{yes}
 """
@@ -235,7 +231,7 @@ class Struct:
 
 
 class Parameter:
-    """A parameter of the thin function or of the function that it calls. Every kind has
+    """A parameter of the thin function or of the function that it calls. Those of the thin function have
 
     number           its place among the parameters, from 0
     lifetime, share  those of the token that comes with it; None where it is not lent
@@ -321,18 +317,18 @@ class SharedSlice(Slice):
 
 
 class TallyByReference(Parameter):
-    """The tally by `&mut`."""
+    """The tally by `&mut`, as the thin function takes it: at (b, o), under the name γ, with the value h."""
+    lifetime = "κ′"
+    share = "q′"
+    argument = "record { ptr = (b, o); name = γ; now = h }"
+    machine_value = "vptr b o"
     vals = "ptr-vals"
     typed = "(tt, tt)"
 
-    def __init__(self, number, struct, lifetime, share, argument, machine_value):
+    def __init__(self, number, struct):
         self.number = number
-        self.lifetime = lifetime
-        self.share = share
-        self.row = f"MutRef (named {number}) {lifetime} R"
-        self.argument = argument
+        self.row = f"MutRef (named {number}) {self.lifetime} R"
         self.argument_type = f"RefT {struct}"
-        self.machine_value = machine_value
         self.end_type = struct
         self.stays = f"stay-ref ({number} ∷ []) tt (plain (λ _. R))"
         self.tells = f"mut-tells (named {number}) ({part(number, 'κs')}) R"
@@ -342,24 +338,17 @@ class TallyByReference(Parameter):
 
 
 class TallyByValue(Parameter):
-    """The tally by value: h, with the claim gh that it has its machine value."""
+    """The tally by value, h, as the callee is passed it."""
     lifetime = None
     share = None
     row = "R"
     argument = "h"
     end_type = "Unit {0}"
-    stays = "stay-dropped (plain (λ _. R)) yes"
 
     def __init__(self, number, struct):
         self.number = number
         self.argument_type = struct
         self.machine_value = struct.value("h")
-        self.typed = struct.typed("h", "gh")
-        self.vals = f"LL.vals {struct.laws}"
-        self.tells = f"LL.tells {struct.laws}"
-
-    def goes(self, count):
-        return f"goes-dropped 𝓤 H A W {count} (plain (λ _. R)) yes (λ κs x f. refl)"
 
 
 def lifetime_tokens(parameters):
@@ -380,21 +369,12 @@ def value_lists_type(parameters):
 
 @dataclass
 class Walk:
-    """The proof file of a thin function: the parts that are the same in both forms.
+    """The proof file of a thin function: the borrow of the tally is open during the call.
 
-    A form writes summary, answer_abbreviations, lemmas, at_call, said, exits and steps, and has
-
-    own_names        the names of the kit that it alone needs, by module
     parameters       the function's parameters
     passed           the callee's parameters
-    tally_binders    what stands for the tally among the binders of the walk
-    tally_arguments  what it is applied to there
-    returned         the struct that the callee returns, as r
-    done_left        the Done that the callee leaves, of r and of the last values zs
-    tally_left       the tally that it leaves
-    returned_local   the local that takes r; the temporaries of the slices come next
-    passed_local     the local that is passed for the tally
-    copy_local       the local that takes a copy of the tally, the last of all
+    returned_local   the local that takes what the callee returns; the temporaries of the slices come next
+    copy_local       the local that takes a copy of the tally and is passed for it, the last of all
     """
     crate: str
     function: str
@@ -418,6 +398,21 @@ class Walk:
         self.key = f"#{self.crate}·{self.name}"
         self.callee_name = f"{self.callee_crate}·{self.callee.replace('_', '-')}"
         self.callee_key = f"#{self.callee_name}"
+        lent = part(self.tally_number, "a")
+        self.parameters = [*self.slices, TallyByReference(self.tally_number, self.tally)]
+        self.passed = [*self.slices, TallyByValue(self.tally_number, self.tally)]
+        self.tally_binders = f"(b o : ℕ) (γ : GName) (h : {self.tally})"
+        self.tally_arguments = f"({lent} .ptr .0) ({lent} .ptr .1) ({lent} .name) ({lent} .now)"
+        self.returned = self.ran
+        self.done_left = f"(r .{self.done_field})"
+        self.done_claim = "(the-done 𝓤 H A W r w is)"
+        self.tally_left = f"(r .{self.tally_field})"
+        self.tally_claim = "(the-struct 𝓤 H A W r w is)"
+        self.passed_lifetimes = nested([each.lifetime for each in self.slices])
+        self.passed_shares = nested([each.share for each in self.slices])
+        self.returned_local = self.tally_local + 1
+        self.copy_local = self.returned_local + 2 * len(self.mutable_slices) + 1
+        self.passed_local = self.copy_local
 
     @property
     def lifetimes(self):
@@ -460,20 +455,11 @@ class Walk:
             """)
 
     def imports(self):
-        return "\n".join([*self.kit_imports(), self.struct_imports(), self.function_imports()])
+        return "\n".join([self.kit_imports(), self.struct_imports(), self.function_imports()])
 
     def kit_imports(self):
-        """The lines of KIT with the walk's own names; a line that has no name then is left out."""
-        elements = sorted({each.element for each in self.slices})
-        own_names = {"denote.Builtin": ", ".join(elements), **self.own_names}
-        lines = []
-        for line in block(KIT).splitlines():
-            names = own_names.get(line.removeprefix("use ").partition(".{")[0])
-            if names:
-                lines.append(line.replace("..", names))
-            elif "{..}" not in line:
-                lines.append(line.replace(", ..", ""))
-        return lines
+        elements = ", ".join(sorted({each.element for each in self.slices}))
+        return block(KIT).replace("..", elements)
 
     def library(self, crate, kind):
         """A crate's library of `specs` or of `proofs`, as this crate names it."""
@@ -514,7 +500,6 @@ class Walk:
             "abbrev R : RattleType\nR = T.the-row",
             "-- a record's machine value\n" + self.tally.value_abbreviation(),
             self.done.value_abbreviation(),
-            *self.answer_abbreviations(),
             self.contract_abbreviations(),
         )
 
@@ -765,47 +750,12 @@ class Walk:
                     code.calls-{self.callee_name} (called-thm.met 𝓤 H 𝓜 𝓖 𝓡)))
             """)
 
-
-class RunWalk(Walk):
-    """The form `run`: the borrow of the tally is open during the call."""
-    own_names = {
-        "base.Fml": "fobs, fbor",
-        "types.Kit": "fsplit3, fjoin3, feqI",
-        "types.Run": "look-raw, store-raw",
-        "denote.Ref": "ptr-vals, mut-tells",
-        "denote.Steps": "opens, closes",
-        "denote.Triple.Walked": "stay-ref, goes-ref",
-    }
-
-    def __post_init__(self):
-        super().__post_init__()
-        reference = "record { ptr = (b, o); name = γ; now = h }"
-        by_reference = TallyByReference(self.tally_number, self.tally, "κ′", "q′", reference, "vptr b o")
-        lent = part(self.tally_number, "a")
-        self.parameters = [*self.slices, by_reference]
-        self.passed = [*self.slices, TallyByValue(self.tally_number, self.tally)]
-        self.tally_binders = f"(b o : ℕ) (γ : GName) (h : {self.tally})"
-        self.tally_arguments = f"({lent} .ptr .0) ({lent} .ptr .1) ({lent} .name) ({lent} .now)"
-        self.returned = self.ran
-        self.done_left = f"(r .{self.done_field})"
-        self.done_claim = "(the-done 𝓤 H A W r w is)"
-        self.tally_left = f"(r .{self.tally_field})"
-        self.tally_claim = "(the-struct 𝓤 H A W r w is)"
-        self.passed_lifetimes = nested([each.lifetime for each in self.slices])
-        self.passed_shares = nested([each.share for each in self.slices])
-        self.returned_local = self.tally_local + 1
-        self.copy_local = self.returned_local + 2 * len(self.mutable_slices) + 1
-        self.passed_local = self.copy_local
-
     def summary(self):
         return block(f"""
             The slices go to `{self.callee}` at their own lifetimes, for good; the borrow of the {self.tally} is \
             opened, it is copied out and passed by value, the one that comes back is stored over it, and the borrow \
             is closed there.
             """)
-
-    def answer_abbreviations(self):
-        return []
 
     def lemmas(self):
         return [self.typed_lemmas(), self.field_lemmas()]
@@ -973,267 +923,9 @@ class RunWalk(Walk):
         )
 
 
-class LentWalk(Walk):
-    """The form `lent`: a local that holds the tally is lent for the call."""
-    own_names = {
-        "base.Fml": "fsep, flent",
-        "types.Kit": "use3, fpick, fpack",
-        "types.Tokens": "lft-new, lft-end",
-        "denote.Memory": "cellAt, partOf",
-        "denote.Lend": "lends-ref, ref-back",
-    }
-
-    def __post_init__(self):
-        super().__post_init__()
-        by_reference = TallyByReference(
-            self.tally_number, self.tally, "(ν ∷ [])", "fullShare", "lent l δ", "vptr l 0")
-        self.parameters = [*self.slices, TallyByValue(self.tally_number, self.tally)]
-        self.passed = [*self.slices, by_reference]
-        self.tally_binders = f"(h : {self.tally}) (gh : {self.tally.has_value('h')})"
-        self.tally_arguments = f"({part(self.tally_number, 'a')}) ({part(self.tally_number, 'are')})"
-        self.returned = self.done
-        self.done_left = "r"
-        self.done_claim = "(settled 𝓤 H A W r w is)"
-        self.tally_left = f"({part(self.tally_number, 'zs')})"
-        self.tally_claim = "gu"
-        self.answer = f"(both r {self.tally_left})"
-        self.lent_local = self.tally_local + 1
-        self.lent_address = "l" + subscript(self.lent_local)
-        self.returned_local = self.lent_local + 1
-        self.passed_local = self.returned_local + 2 * len(self.mutable_slices) + 1
-        self.copy_local = self.passed_local + 1
-
-    def summary(self):
-        return block(f"""
-            The {self.tally} is laid in a local, which is lent to `{self.callee}` for a lifetime that is made for the \
-            call and comes back at the value that `{self.callee}` left; the slices go to `{self.callee}` at their own \
-            lifetimes, for good.
-            """)
-
-    def answer_abbreviations(self):
-        return [self.ran.value_abbreviation(), block(f"""
-            -- what the function answers of what `{self.callee}` answers and the {self.tally} that it left
-            abbrev both : {self.done} → {self.tally} → {self.ran}
-            both r u = record {{ {self.done_field} = r; {self.tally_field} = u }}
-
-            made : (r : {self.done}) (u : {self.tally}) → {self.done.has_value("r")} → {self.tally.has_value("u")} \
-                → {self.ran.has_value("(both r u)")}
-            made r u gr gu = LL.owes B.the-type B′.the-laws (both r u) (gr, (gu, tt))
-            """)]
-
-    def lemmas(self):
-        return [self.local_lemmas(), self.typed_lemmas(), self.settled_lemma()]
-
-    def local_lemmas(self):
-        return block(f"""
-            -- a local that holds a record lies in memory as a reference to it has it; and back
-            laid : (t : {self.tally}) (l : ℕ) → {self.tally.has_value("t")} \
-                → ent 𝓤 (sem 𝓤 H A (fat fullShare T′.mir l 0 (val t))) (sem 𝓤 H A (mem R .lies t l 0))
-            unfolding partOf
-            laid t l gt =
-                qed W (‵ (fat fullShare T′.mir l 0 (val t)) ∷ []) ∵ \
-                    use1 W (‵ (cellAt fullShare (R .mir) (val t ∷ []) l 0)) \
-                        (W .laws .at-raw fullShare T′.mir l 0 (val t)) $
-                {self.tally.owned("t", "gt")} {move(1, 0)} fjoin ! $ fpack ! (List Val) \
-                    (λ us. fsep (cellAt fullShare (R .mir) us l 0) (R .own t us)) (val t ∷ []) $ done !
-
-            taken : (t : {self.tally}) (l : ℕ) → ent 𝓤 (sem 𝓤 H A (mem R .lies t l 0)) \
-                (sep 𝓤 (sem 𝓤 H A (fat fullShare T′.mir l 0 (val t))) (sem 𝓤 H A (R .own t (val t ∷ []))))
-            unfolding partOf
-            taken t l =
-                qed W (‵ (mem R .lies t l 0) ∷ []) ∵ fpick ! (λ vs. fsplit ! $ {self.tally.spelt("t", "l 0")}
-                use1 W (‵ (fat fullShare T′.mir l 0 (val t))) (W .laws .raw-at fullShare T′.mir l 0 (val t)) $ \
-                    frame ! $ done !)
-            """)
-
-    def settled_lemma(self):
-        return block(f"""
-            -- a record's machine value is the one that its relation tells
-            settled : (x : {self.done}) (v : Val) → Is D.the-row x (v ∷ []) → {self.done.has_value("x")}
-            settled x v is = LL.owes D.the-type D′.the-laws x (LL.owed D.the-type D′.the-laws x _ is)
-            """)
-
-    def at_call(self):
-        """What `run` is called with."""
-        return block(f"""
-            -- what `{self.callee}` is passed: the local l, lent for the lifetime ν under the name δ
-            abbrev lent : ℕ → GName → RefT {self.tally}
-            lent l δ = record {{ ptr = (l, 0); name = δ; now = h }}
-
-            abbrev κs′ : ℕ → Lfts {len(self.passed)}
-            κs′ ν = {nested([*self.lifetimes, "ν ∷ []"])}
-
-            abbrev Passed : Type 0
-            Passed = {product([each.argument_type for each in self.passed])}
-
-            abbrev passed : ℕ → GName → Passed
-            passed l δ = {nested([each.argument for each in self.passed])}
-
-            abbrev passed-vals : ℕ → {value_lists_type(self.passed)}
-            passed-vals l = {value_lists(self.passed)}
-
-            abbrev to : ℕ → ℕ → GName → Callee 𝓤 H A at-mem run′ .Ghost
-            to l ν δ = ((κs′ ν, {nested([each.share for each in self.passed])}, tt, passed l δ, passed-vals l), tt)
-
-            abbrev tokens : Item 𝓤
-            tokens = {lifetime_tokens(self.parameters)}
-
-            abbrev tokens′ : ℕ → Item 𝓤
-            tokens′ ν = {lifetime_tokens(self.passed)}
-
-            abbrev tys : ℕ → List RattleType
-            tys ν = {listed(each.row for each in self.passed)}
-
-            asks : (l ν : ℕ) (δ : GName) \
-                → ent 𝓤 (⋆ 𝓤 H A (tokens′ ν ∷ ‵ (owns (tys ν) (passed l δ) (passed-vals l)) ∷ [])) \
-                    (Callee 𝓤 H A at-mem run′ .pre (to l ν δ))
-            asks l ν δ = qed W (tokens′ ν ∷ ‵ (owns (tys ν) (passed l δ) (passed-vals l)) ∷ []) ∵ \
-                join ! $ frame ! $ done !
-            """)
-
-    def said(self):
-        return "what is said of the outcome"
-
-    def exits(self):
-        return self.exits_by(
-            claims={"gr": self.done.has_value("r"), "gu": self.tally.has_value(self.tally_left)},
-            held=["‵ ftrue", *(each.token for each in reversed(self.slices))],
-            struct=self.ran,
-            answer=self.answer,
-            answer_claim=f"(made r {self.tally_left} gr gu)",
-            tally_last="tt",
-            steps=block(f"""
-                {put_together("join", 1, len(self.slices))} frame ! $
-                nothing ! $ nothing ! $ fjoin ! $ {self.slices_had()}
-                """),
-        )
-
-    # -- the walk
-
-    def steps(self):
-        return [
-            self.enter("tokens"),
-            self.lay_tally(),
-            self.slice_arguments(),
-            self.take_address(),
-            self.lend(),
-            self.put_asked_together(),
-            self.call_run(),
-            self.take_returned(),
-            self.end_lifetime(),
-            self.build_answer(),
-            self.leave_lent(),
-        ]
-
-    def place_lent(self, local, behind):
-        """The place of a local but the lent one, whose memory is not among the locals from `lend` on."""
-        return self.place(local, behind) - (1 if local < self.lent_local else 0)
-
-    def lay_tally(self):
-        tally = f"(of-opd ! {load(self.place(self.tally_local))})"
-        return assign(tally, self.place(self.lent_local), self.tally.typed("h", "gh"))
-
-    def take_address(self):
-        return assign("(addr ! (from ! (stop !)))", self.place(self.passed_local), "(tt, tt)")
-
-    def lend(self):
-        address, named = self.lent_address, f"(named {self.tally_number})"
-        return block(f"""
-            -- the local is lent for a lifetime ν of the call
-            {move(self.place(self.lent_local))} use1 W (‵ (mem R .lies h {address} 0)) (laid 𝓤 H A W h {address} gh) $ \
-                lft-new ! tt (λ ν. {move(1)}
-            use1 W (later (some (λ (δ : GName). \
-                ‵ (MutRef {named} (ν ∷ []) R .own (lent {address} δ) (vptr {address} 0 ∷ [])) \
-                ⊛ ‵ (flent (ν ∷ []) (Body (mem R) {address} 0 δ))))) \
-                (lends-ref 𝓤 H A W R {named} (ν ∷ []) h {address} 0) $ await ! tt $ pick ! (λ δ. split ! $
-            """)
-
-    def put_asked_together(self):
-        """What the parameters own comes to the place of the tokens when these are in front with the token of ν."""
-        count, address = len(self.slices), self.lent_address
-        place = 3 + 2 * len(self.locals) - 1
-        return block(f"""
-            -- [the reference; the lender's part; the token of ν; the locals; the tokens; what the parameters own]: \
-                what `{self.callee}` asks is put together
-            {self.join_token(place)}
-            {move(place)} {taken_apart("fsplit", count)} drop ! $ nothing ! $ {move(count + 2, 0)} fjoin ! $ \
-                {put_together("fjoin", 1, count)}
-            {move(1, 0)} use2 W (raw (Callee 𝓤 H A at-mem run′ .pre (to {address} ν δ))) (asks {address} ν δ) $
-            """)
-
-    def call_run(self):
-        """Before the locals: what is asked; the lender's part."""
-        return self.call(
-            place=lambda local: self.place_lent(local, behind=2),
-            to=f"(to {self.lent_address} ν δ)",
-            lifetimes="(κs′ ν)",
-            passed=f"(passed {self.lent_address} δ)",
-            tokens="tokens′ ν",
-            lasts="values",
-        )
-
-    def take_returned(self):
-        lists = len(self.mutable_slices)
-        arranged = block(f"""
-            fsplit ! $ {move(1)} drop ! $ {move(lists + 1)} split ! $ {move(1)}
-            -- [the result; the tokens; the last value; the last lists; the lender's part; the locals]
-            """)
-        return arranged + "\n" + self.land(self.place_lent(self.returned_local, behind=4 + lists), "v")
-
-    def end_lifetime(self):
-        """The tokens, taken apart, are before the result, the last value, the last lists and the lender's part."""
-        count, address, left = len(self.slices), self.lent_address, self.tally_left
-        last_value = count + 3
-        lender = last_value + len(self.mutable_slices) + 1
-        value = self.tally.value(left)
-        return block(f"""
-            -- the lifetime is ended, and the local comes back
-            {move(1)} {taken_apart("split", count)} split ! $ lft-end ! tt $ {move(0, lender, last_value)}
-            use3 W (later (‵ (mem R .lies {left} {address} 0))) \
-                (ref-back 𝓤 H A W R (ν ∷ []) δ {left} {address} 0) $ await ! tt $
-            use1 W (‵ (fat fullShare T′.mir {address} 0 ({value})) ⊛ ‵ (R .own {left} ({value} ∷ []))) \
-                (taken 𝓤 H A W {left} {address}) $ split ! $
-            {move(1)} {self.tally.peeks(left, "gu")} {move(1, 0)}
-            """)
-
-    @property
-    def behind_back(self):
-        """How many entries are before the locals when the lent one is back; `build_answer` names them."""
-        return 4 + len(self.slices) + len(self.mutable_slices)
-
-    def build_answer(self):
-        result = self.place_lent(0, self.behind_back)
-        done = self.place_lent(self.returned_local, self.behind_back)
-        copy = self.place_lent(self.copy_local, self.behind_back)
-        made = f"(made r {self.tally_left} {self.done_claim} {self.tally_claim})"
-        answer = f"(agg ! {operands([load(done), load(copy)])})"
-        return block(f"""
-            -- [the local; what it owns; true; the slices' tokens; the result; the last lists; the other locals]
-            {assign(f"(of-opd ! {load(0)})", copy, self.tally.typed(self.tally_left, self.tally_claim))}
-            {assign(answer, result, self.ran.typed(self.answer, made, value="_"))}
-            """)
-
-    def leave_lent(self):
-        """The lent local's memory is in front; when it is freed, the locals that follow are one place nearer."""
-        count, lists = len(self.slices), len(self.mutable_slices)
-        others = [local for local in self.locals if local != self.lent_local]
-        places = {local: self.place_lent(local, self.behind_back) for local in others}
-        freed = [(places[local], places[local] + 1) for local in others if local < self.lent_local]
-        freed += [(0, self.place(self.lent_local, self.behind_back))]
-        freed += [(places[local] - 1, places[local]) for local in others if local > self.lent_local]
-        return self.leave(
-            result=places[0],
-            forgotten=[0, *(places[local] for local in reversed(others))],
-            freed=freed,
-            kept=[1, *range(2, 2 + count), *range(count + 3, count + 3 + lists)],
-            claims=f"{self.done_claim} {self.tally_claim}",
-        )
-
-
 WALKS = [
-    RunWalk(crate="job", function="run", callee_crate="job", callee="work"),
-    RunWalk(crate="card_store", function="reader_job", callee_crate="job", callee="work"),
-    LentWalk(crate="reader", function="lent_run", callee_crate="job", callee="run"),
+    Walk(crate="job", function="run", callee_crate="job", callee="work"),
+    Walk(crate="card_store", function="reader_job", callee_crate="job", callee="work"),
 ]
 
 

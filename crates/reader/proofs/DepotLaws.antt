@@ -1,7 +1,7 @@
 -- What `depot` writes, told without the buffers: an input over 16,384 bytes gives `13 0 0 0` alone (`depot-long`); any other gives the answers of its lines on
 -- a fresh store with 16,384 bytes of output, and behind them nothing or `10 0 0 0` (`depot-lines`, `depot-closes`).
 use Prim.Native.Nat.{ℕ, _≤_, _<_}
-use mathlib.Core.Path.{_≡_, refl, ap, _∙_}
+use mathlib.Core.Path.{_≡_, refl, _∙_}
 use mathlib.Core.Bool.{true}
 use mathlib.Core.Logic.{_⊎_, inl, inr}
 use mathlib.Core.List.{List, [], _∷_, _++_}
@@ -9,8 +9,8 @@ use native.Mathlib.Omega.{arith}
 use lib.ListN.{length, length-replicate}
 use borrow.Author.Tests.{lt-ltb, le-ltb}
 use Rattle.model.specs.Shape.{need}
-use Rattle.model.specs.Model.{Store, fresh}
-use Rattle.model.specs.Layout.{shapeOf, decodeAs, decode, sound}
+use Rattle.model.specs.Model.{fresh}
+use Rattle.model.specs.Layout.{shapeOf, decode, sound}
 use Rattle.model.specs.Text.{digits, decimal, linesOf}
 use Rattle.model.specs.Job.{Run, runLines, started, mostText}
 use Rattle.model.proofs.Fresh.{fair-fresh, fresh-sound}
@@ -33,15 +33,15 @@ opened-back : decode opened ≡ fresh depotShape
 unfolding opened
 opened-back = read-back (fresh depotShape) (fair-fresh depotShape shape)
 
-scratch-long : need (shapeOf opened) ≤ length (blank (need depotShape))
-unfolding blank decodeAs fresh
-scratch-long = omega (arith, length-replicate {A = ℕ} (need depotShape) 0, ap (λ (s : Store). need (s .shape)) opened-back)
+scratch-long : need (shapeOf opened) ≤ length (blank (need (shapeOf opened)))
+unfolding blank
+scratch-long = omega (arith, length-replicate {A = ℕ} (need (shapeOf opened)) 0)
 
 pub depot-long : (input : List ℕ) → mostText < length input → depotText input ≡ 49 ∷ 51 ∷ 32 ∷ 48 ∷ 32 ∷ 48 ∷ 32 ∷ 48 ∷ 10 ∷ []
 unfolding depotText textIn closing decimal digits
 depot-long input h =
-    whole-text opened (blank (need depotShape)) input (blank outputSize) nothing
-    ∙ rw (le-ltb (length (blank (need depotShape))) (need (shapeOf opened)) scratch-long, lt-ltb mostText (length input) h)
+    whole-text opened (blank (need (shapeOf opened))) input (blank outputSize) nothing
+    ∙ rw (le-ltb (length (blank (need (shapeOf opened)))) (need (shapeOf opened)) scratch-long, lt-ltb mostText (length input) h)
 
 -- the lines of an input, run
 abbrev pub ran : List ℕ → Run
@@ -50,8 +50,8 @@ ran input = runLines (linesOf input) outputSize (started (fresh depotShape) noth
 pub depot-lines : (input : List ℕ) → length input ≤ mostText → depotText input ≡ ran input .text ++ closing (ran input .number)
 unfolding depotText textIn linesText
 depot-lines input h =
-    whole-text opened (blank (need depotShape)) input (blank outputSize) nothing
-    ∙ rw (le-ltb (length (blank (need depotShape))) (need (shapeOf opened)) scratch-long, le-ltb mostText (length input) h, opened-sound, opened-back, out-long)
+    whole-text opened (blank (need (shapeOf opened))) input (blank outputSize) nothing
+    ∙ rw (le-ltb (length (blank (need (shapeOf opened)))) (need (shapeOf opened)) scratch-long, le-ltb mostText (length input) h, opened-sound, opened-back, out-long)
 
 pub depot-closes : (input : List ℕ) → (closing (ran input .number) ≡ []) ⊎ (closing (ran input .number) ≡ 49 ∷ 48 ∷ 32 ∷ 48 ∷ 32 ∷ 48 ∷ 32 ∷ 48 ∷ 10 ∷ [])
 unfolding closing decimal digits

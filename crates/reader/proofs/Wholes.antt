@@ -1,6 +1,6 @@
 -- The whole text of a job. Its number has at most two digits (`job-number`), its bytes stand within the output (`job-bytes`), the output keeps its length and
--- what stands behind them (`job-length`, `job-rest`), and the text goes by the output's length alone (`whole-same`). So the job in the front of an output,
--- with its closing line behind it, writes what `depot` writes (`whole-writes`), within that output (`writes-within`).
+-- what stands behind them (`job-length`, `job-rest`), and text, number and words go by the output's length alone (`whole-same`, `job-same`). So the job in the
+-- front of an output, with its closing line behind it, is answered as one with an output of zeros (`whole-answers`), within that output (`writes-within`).
 use Prim.Native.Nat.{ℕ, _+_, _≤_}
 use mathlib.Core.Path.{_≡_, refl, sym, ap, _∙_}
 use mathlib.Core.Bool.{cond}
@@ -19,7 +19,7 @@ use Rattle.model.proofs.Jobs.{job-cases, lines-end, lines-fit}
 use Rattle.text.specs.Decimals.{Puts}
 use Rattle.text.proofs.Putting.{put-front, put-rest}
 use Rattle.job.specs.declared.Done.{Done}
-use Rattle.reader.specs.Depot.{depotShape, opened, outputSize, wholeSize, blank, nothing, closing, wholeText, depotText, Ended, Writes}
+use Rattle.reader.specs.Depot.{outputSize, wholeSize, blank, nothing, closing, wholeText, jobOn, Ended, Writes, Answers}
 use Rattle.reader.proofs.Closing.{closing-long}
 
 module _ (w scratch text out : List ℕ) (t : Tally) where
@@ -65,6 +65,14 @@ pub whole-same : (w scratch text : List ℕ) (t : Tally) (out out′ : List ℕ)
 whole-same w scratch text t out out′ e =
     whole-text w scratch text out t ∙ ap (λ (n : ℕ). textIn w scratch text n t) e ∙ sym (whole-text w scratch text out′ t)
 
+pub job-same : (w scratch text : List ℕ) (t : Tally) (out out′ : List ℕ) → length out ≡ length out′
+    → (job w scratch text out t .number ≡ job w scratch text out′ t .number) × (job w scratch text out t .words ≡ job w scratch text out′ t .words)
+unfolding job
+job-same w scratch text t out out′ e =
+    by-cases (ltb (length scratch) (need (shapeOf w))) (λ a. rw a (refl, refl))
+    (λ a. rw a (by-cases (ltb mostText (length text)) (λ b. rw b (refl, refl))
+    (λ b. rw b (by-cases (sound w) (λ s. rw (s, e) (refl, refl)) (λ s. rw s (refl, refl))))))
+
 -- what is written lies within what it is written into
 pub writes-within : {text before : List ℕ} {r : ℕ} {out : List ℕ} → Writes text before r out → r ≤ length out
 writes-within {text} {before} w = omega (arith, ap length (w .out-is), length-append text (drop (length text) before))
@@ -77,42 +85,52 @@ abbrev behind : List ℕ → List ℕ
 behind out = drop outputSize out
 
 -- the job in the front of an output, and its closing line behind it
-module _ (input out : List ℕ) (l : length out ≡ wholeSize) {done : Done} {after : List ℕ} (e : Ended (job opened (blank (need depotShape)) input (front out) nothing) done after) where
+module _ (w input out : List ℕ) (l : length out ≡ wholeSize) {done : Done} {words after : List ℕ} (e : Ended (job w (blank (need (shapeOf w))) input (front out) nothing) done words after) where
   front-long : length (front out) ≡ outputSize
   front-long = length-take-le outputSize out (omega arith)
 
   bytes-front : done .bytes ≤ length (front out)
-  bytes-front = rw (e .bytes-are) (job-bytes opened (blank (need depotShape)) input (front out) nothing)
+  bytes-front = rw (e .bytes-are) (job-bytes w (blank (need (shapeOf w))) input (front out) nothing)
 
   bytes-in : done .bytes ≤ length after
-  bytes-in = omega (arith, bytes-front, ap length (e .out-is), job-length opened (blank (need depotShape)) input (front out) nothing)
+  bytes-in = omega (arith, bytes-front, ap length (e .out-is), job-length w (blank (need (shapeOf w))) input (front out) nothing)
 
   pub whole-fits : done .bytes + length (closing (done .number)) ≤ length (after ++ behind out)
   whole-fits =
-      let n : done .number ≤ 13 = rw (e .number-is) (job-number opened (blank (need depotShape)) input (front out) nothing) in
+      let n : done .number ≤ 13 = rw (e .number-is) (job-number w (blank (need (shapeOf w))) input (front out) nothing) in
       omega (arith, bytes-in, closing-long (done .number) (omega arith), length-append after (behind out), length-drop outputSize out)
 
   -- up to its end stand the job's answers and the closing line, and behind it what stood there
-  whole-front : take (done .bytes) (after ++ behind out) ++ closing (done .number) ≡ depotText input
-  unfolding depotText wholeText blank
+  whole-front : take (done .bytes) (after ++ behind out) ++ closing (done .number) ≡ wholeText (jobOn w input)
+  unfolding wholeText blank
   whole-front =
       rw (take-append-le (done .bytes) after (behind out) bytes-in, e .out-is, e .bytes-are, e .number-is)
-      (whole-same opened (blank (need depotShape)) input nothing (front out) (blank outputSize) (front-long ∙ sym (length-replicate {A = ℕ} outputSize 0)))
+      (whole-same w (blank (need (shapeOf w))) input nothing (front out) (blank outputSize) (front-long ∙ sym (length-replicate {A = ℕ} outputSize 0)))
 
   whole-rest : drop (done .bytes) (after ++ behind out) ≡ drop (done .bytes) out
   whole-rest =
-      let kept : drop (done .bytes) after ≡ drop (done .bytes) (front out) = rw (e .bytes-are, e .out-is) (job-rest opened (blank (need depotShape)) input (front out) nothing) in
+      let kept : drop (done .bytes) after ≡ drop (done .bytes) (front out) = rw (e .bytes-are, e .out-is) (job-rest w (blank (need (shapeOf w))) input (front out) nothing) in
       rw (drop-append-le (done .bytes) after (behind out) bytes-in, kept, ← (drop-append-le (done .bytes) (front out) (behind out) bytes-front), take-append-drop outputSize out)
 
-  pub whole-writes : {r : ℕ} {left : List ℕ} → Puts (after ++ behind out) (done .bytes) (closing (done .number)) r left → Writes (depotText input) out r left
+  pub whole-writes : {r : ℕ} {left : List ℕ} → Puts (after ++ behind out) (done .bytes) (closing (done .number)) r left → Writes (wholeText (jobOn w input)) out r left
   whole-writes {r} {left} p =
       let o = after ++ behind out in
       let k = closing (done .number) in
       let n = done .bytes + length k in
-      let long : n ≡ length (depotText input) = omega (arith, ap length whole-front, length-append (take (done .bytes) o) k, length-take-le (done .bytes) o (omega (arith, whole-fits))) in
+      let long : n ≡ length (wholeText (jobOn w input)) = omega (arith, ap length whole-front, length-append (take (done .bytes) o) k, length-take-le (done .bytes) o (omega (arith, whole-fits))) in
       record {
         out-is =
             p .out-is ∙ sym (take-append-drop n (sets o (done .bytes) k))
             ∙ rw (put-front o k (done .bytes) whole-fits, put-rest o out k (done .bytes) whole-fits whole-rest, whole-front, long);
         len-is = p .end-is ∙ long;
       }
+
+  -- the job goes by the output's length alone, so its number and its words are those of one with an output of zeros
+  same-job : (done .number ≡ jobOn w input .number) × (words ≡ jobOn w input .words)
+  unfolding blank
+  same-job =
+      let s = job-same w (blank (need (shapeOf w))) input nothing (front out) (blank outputSize) (front-long ∙ sym (length-replicate {A = ℕ} outputSize 0)) in
+      (e .number-is ∙ s .0, e .words-are ∙ s .1)
+
+  pub whole-answers : {r : ℕ} {left : List ℕ} → Puts (after ++ behind out) (done .bytes) (closing (done .number)) r left → Answers (jobOn w input) out (done .number) r words left
+  whole-answers p = record { number-is = same-job .0; words-are = same-job .1; text-is = whole-writes p }

@@ -1,2 +1,2 @@
--- What the program `depot` writes.
+-- What is written for a job, and by the program `depot`.
 pub mod Depot

@@ -1,14 +1,13 @@
-// The bench reader's one job: a fresh store, a text, and all that is written for it.
+// One job on a store, and all that is written for it; the bench reader's is one on a fresh store.
 ghost use mathlib.Core.Path.{_≡_};
 ghost use Prim.Native.Nat.{_+_, _≤_};
 ghost use lib.ListN.{length};
 ghost use Rattle.model.specs.Shape.{need};
+ghost use Rattle.model.specs.Layout.{shapeOf};
 ghost use Rattle.model.specs.Job.{job};
 ghost use Rattle.text.specs.Decimals.{Puts};
-ghost use Rattle.job.specs.Runs.{Did};
-ghost use Rattle.reader.specs.Depot.{depotShape, opened, wholeSize, blank, nothing, closing, depotText, Ended, Writes};
+ghost use Rattle.reader.specs.Depot.{opened, wholeSize, blank, nothing, closing, jobOn, depotText, Ended, Writes, Answers};
 use job::Done;
-use job::Ran;
 use job::Tally;
 use job::answers;
 use text::decimals;
@@ -38,7 +37,7 @@ const OUTPUT: usize = 16384;
 const CLOSING: usize = 9;
 
 // The most that is written.
-const WHOLE: usize = OUTPUT + CLOSING;
+pub const WHOLE: usize = OUTPUT + CLOSING;
 
 // A fresh store.
 fn fresh_store() -> [u32; WORDS]
@@ -49,20 +48,10 @@ fn fresh_store() -> [u32; WORDS]
     words
 }
 
-// The tally by value, lent to the job and handed back.
-fn lent_run(words: &mut [u32], scratch: &mut [u8], text: &[u8], out: &mut [u8], tally: Tally) -> Ran
-    ensures { λ r. ⌜ Did (now (words .entry)) (now (scratch .entry)) (now (text .entry)) (now (out .entry)) tally (r .done) (r .tally) (now (words .exit)) (now (scratch .exit)) (now (out .exit)) ⌝ }
+// One job on a store: how it ended, and its answers at the front of the output.
+fn run_on(words: &mut [u32], input: &[u8], out: &mut [u8]) -> Done
+    ensures { λ r. ⌜ Ended (job (now (words .entry)) (blank (need (shapeOf (now (words .entry))))) (now (input .entry)) (now (out .entry)) nothing) r (now (words .exit)) (now (out .exit)) ⌝ }
 {
-    let mut lent = tally;
-    let done = job::run(words, scratch, text, out, &mut lent);
-    Ran { done, tally: lent }
-}
-
-// One job on a fresh store: how it ended, and its answers at the front of the output.
-fn run_fresh(input: &[u8], out: &mut [u8]) -> Done
-    ensures { λ r. ⌜ Ended (job opened (blank (need depotShape)) (now (input .entry)) (now (out .entry)) nothing) r (now (out .exit)) ⌝ }
-{
-    let mut words = fresh_store();
     let mut scratch = [0u8; store::NEED];
     let none = Tally {
         entries: 0,
@@ -72,13 +61,13 @@ fn run_fresh(input: &[u8], out: &mut [u8]) -> Done
         contractions: 0,
         comparisons: 0,
     };
-    let r = lent_run(&mut words, &mut scratch, input, out, none);
+    let r = job::work(words, &mut scratch, input, out, none);
     let done = r.done;
     done
 }
 
 // The closing line of a job that stops, behind what is written.
-fn close(out: &mut [u8], at: usize, number: u32) -> usize
+pub fn close(out: &mut [u8], at: usize, number: u32) -> usize
     requires { ⌜ at + length (closing number) ≤ length (now out) ⌝ }
     ensures { λ r. ⌜ Puts (now (out .entry)) at (closing number) r (now (out .exit)) ⌝ }
 {
@@ -89,13 +78,21 @@ fn close(out: &mut [u8], at: usize, number: u32) -> usize
     decimals::put_byte(out, end, letters::LF)
 }
 
-// The job in the front of the output, and its closing line behind it.
-fn write_whole(input: &[u8], out: &mut [u8]) -> usize
+// A job's number, and the length of all that is written for it.
+pub struct Answered {
+    pub number: u32,
+    pub len: usize,
+}
+
+// One job on a store: its answers in the front of the output, and its closing line behind them.
+pub fn answer_on(words: &mut [u32], input: &[u8], out: &mut [u8]) -> Answered
     requires { ⌜ length (now out) ≡ wholeSize ⌝ }
-    ensures { λ r. ⌜ Writes (depotText (now (input .entry))) (now (out .entry)) r (now (out .exit)) ⌝ }
+    ensures { λ r. ⌜ Answers (jobOn (now (words .entry)) (now (input .entry))) (now (out .entry)) (r .number) (r .len) (now (words .exit)) (now (out .exit)) ⌝ }
 {
-    let done = run_fresh(input, &mut out[..OUTPUT]);
-    close(out, done.bytes as usize, done.number)
+    let done = run_on(words, input, &mut out[..OUTPUT]);
+    let number = done.number;
+    let len = close(out, done.bytes as usize, number);
+    Answered { number, len }
 }
 
 // A text at the front of an array, and its length.
@@ -108,7 +105,9 @@ pub struct Text {
 pub fn answer(input: &[u8]) -> Text
     ensures { λ r. ⌜ Writes (depotText (now (input .entry))) (blank wholeSize) (r .len) (r .bytes) ⌝ }
 {
+    let mut words = fresh_store();
     let mut out = [0u8; WHOLE];
-    let len = write_whole(input, &mut out);
+    let r = answer_on(&mut words, input, &mut out);
+    let len = r.len;
     Text { bytes: out, len }
 }
