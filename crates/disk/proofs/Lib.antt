@@ -1,0 +1,4 @@
+-- Laws that the functions' proofs cite, one theme a file
+pub mod Bytes
+pub mod Lengths
+pub mod Served
