@@ -2,3 +2,4 @@
 pub mod Bytes
 pub mod Lengths
 pub mod Served
+pub mod Making

@@ -63,11 +63,15 @@ argument a = cond (isNumber a) (valueFrom 0 a) 0
 abbrev pub termsFrom : List ℕ → List ℕ → List ℕ → List ℕ → Terms
 termsFrom cards faults upper lower = record { cards = argument cards; faults = argument faults; upper = argument upper; lower = argument lower }
 
+-- a number as a line of its own
+unfoldable pub numberLine : ℕ → List ℕ
+numberLine n = decimal n ++ (lf ∷ [])
+
 -- a store that was opened, as a file, where Open gave 0; the number is written as a line
 unfoldable pub fileFrom : Opened → Desk
 fileFrom o =
     let done = eqb (o .number) 0 in
-    record { number = o .number; words = cond done (o .words) []; file = cond done (fileOf (o .words)) []; text = decimal (o .number) ++ (lf ∷ []); save = done }
+    record { number = o .number; words = cond done (o .words) []; file = cond done (fileOf (o .words)) []; text = numberLine (o .number); save = done }
 
 -- a fresh file for these terms: Open on as many words as they ask for
 unfoldable pub freshFor : Terms → Desk
@@ -76,13 +80,17 @@ freshFor t = fileFrom (openCall (blank (lengthFor (shapeFor t))) t)
 unfoldable pub deskNew : List ℕ → List ℕ → List ℕ → List ℕ → Desk
 deskNew cards faults upper lower = freshFor (termsFrom cards faults upper lower)
 
--- the longest text of it
+-- room for its text: any number and LF
 abbrev pub newSize : ℕ
-newSize = 3
+newSize = 21
 
--- what the program gives and leaves, held to it: the file's bytes at the front of one buffer, the text at the front of another
-pub record Makes (d : Desk) (before out : List ℕ) (number len said : ℕ) (file′ out′ : List ℕ) : Type 0 where
+-- what the program gives and leaves, held to it: the file's bytes at the front of a buffer, read back as the words
+pub record Files (d : Desk) (before : List ℕ) (number len : ℕ) (file′ : List ℕ) : Type 0 where
   pub number-is : number ≡ d .number
   pub file-is : Writes (d .file) before len file′
   pub back-are : wordsOf (d .file) ≡ d .words
+
+-- and the text at the front of another
+pub record Makes (d : Desk) (before out : List ℕ) (number len said : ℕ) (file′ out′ : List ℕ) : Type 0 where
+  pub made : Files d before number len file′
   pub text-is : Writes (d .text) out said out′

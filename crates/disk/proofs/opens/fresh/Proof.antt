@@ -1,0 +1,19 @@
+-- `disk::opens::fresh` meets its contract: the file is made for the arguments, and its number is written.
+use Rattle.disk.specs.Desk.{termsFrom, freshFor, deskNew, Files}
+use Rattle.disk.proofs.Making.{fresh-said}
+use borrow.Author.Needs.{needs}
+use Rattle.disk.proofs.opens.fresh.Statement.{statement}
+use Rattle.disk.proofs.opens.fresh.Tie as tie
+
+returns : tie.Need-returns
+unfolding deskNew
+returns c = 
+    let s = c .before .before .before .before .before .before .before .before .before .before .before .before .before .before .before .before .before .before .args in
+    let t = termsFrom (s .cards .now) (s .faults .now) (s .upper .now) (s .lower .now) in
+    let r = c .before .before .before .before .before .before .fresh-for in
+    let m : Files (freshFor t) (s .file .now) (r .result .number) (r .result .len) (r .last .1 .1 .1 .1 .0) =
+    rw (← (c .before .before .before .before .before .before .before .before .before .before .before .argument .ensures), ← (c .before .before .before .before .before .before .before .before .before .before .argument2 .ensures), ← (c .before .before .before .before .before .before .before .before .before .argument3 .ensures), ← (c .before .before .before .before .before .before .before .before .argument4 .ensures)) (r .ensures) in
+    record { made = m; text-is = rw (fresh-said t, ← (m .number-is)) (c .before .before .put-number .ensures) }
+
+pub fresh-spec : {M : Type 1} → statement M
+fresh-spec = tie.close (tie.spec (λ c κs. search needs) (λ c κs. search needs) (λ c κs. search needs) (λ c κs. search needs) (λ c κs. search needs) (λ c κs. search needs) (λ c. search needs) (λ c. search needs) returns)
