@@ -3,3 +3,4 @@ pub mod Bytes
 pub mod Lengths
 pub mod Served
 pub mod Making
+pub mod Telling

@@ -1,11 +1,11 @@
 -- A fresh file: limits that take too many words are out of range (`limits-over`), Open goes by the number of words alone (`opens-alike`), and the three
--- ways in which a file is made or not (`none-made`, `refused-made`, `fresh-made`). A number in decimal has at most twenty digits (`decimal-most`).
-use Prim.Native.Nat.{ℕ, zero, suc, _+_, _*_, _/_, _%_, _≤_, _<_}
+-- ways in which a file is made or not (`none-made`, `refused-made`, `fresh-made`).
+use Prim.Native.Nat.{ℕ, _*_, _≤_, _<_}
 use mathlib.Core.Path.{_≡_, refl, sym, ap, _∙_}
-use mathlib.Core.Bool.{true, false, not, cond}
+use mathlib.Core.Bool.{true, false}
 use mathlib.Core.List.{List, [], _∷_, _++_}
 use native.Mathlib.Omega.{arith}
-use lib.Dec.{ltb, eqb}
+use lib.Dec.{eqb}
 use lib.ListN.{length, drop, length-replicate}
 use borrow.Author.Tests.{eq-eqb, ne-eqb}
 use Rattle.rules.proofs.Tests.{by-cases, both}
@@ -15,7 +15,6 @@ use Rattle.model.specs.Shape.{faultsEver, Shape, entries, cardWidth, mostCards,
 use Rattle.model.specs.Layout.{cardsAt, faultsAt, lengthFor, limitsOk, boundsOk, encode}
 use Rattle.model.specs.Model.{fresh}
 use Rattle.model.specs.Calls.{Terms, shapeFor, Opened, openCall}
-use Rattle.model.specs.Text.{digits, decimal}
 use Rattle.model.proofs.Lists.{between-is}
 use Rattle.model.proofs.Rep.{rep-encode}
 use Rattle.model.proofs.Fresh.{fair-fresh}
@@ -24,16 +23,6 @@ use Rattle.reader.specs.Depot.{blank}
 use Rattle.disk.specs.Bytes.{wordsOf, four, fileOf, WrittenAs}
 use Rattle.disk.specs.Desk.{mostWords, numberLine, fileFrom, freshFor, Files}
 use Rattle.disk.proofs.Lengths.{most-words}
-
-digits-most : (fuel n : ℕ) (acc : List ℕ) → length (digits fuel n acc) ≤ fuel + length acc
-unfolding digits
-digits-most zero n acc = omega arith
-digits-most (suc fuel) n acc =
-    by-cases (ltb n 10) (λ e. rw e (omega arith)) (λ e. rw e (omega (arith, digits-most fuel (n / 10) ((48 + n % 10) ∷ acc))))
-
-pub decimal-most : (n : ℕ) → length (decimal n) ≤ 20
-unfolding decimal
-decimal-most n = digits-most 20 n []
 
 pub file-length : (w : List ℕ) → length (fileOf w) ≡ 4 * length w
 unfolding fileOf four

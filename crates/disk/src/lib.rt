@@ -7,7 +7,9 @@ ghost use Rattle.disk.specs.Bytes.{wordsOf};
 ghost use Rattle.disk.specs.Desk.{mostWords, sized as Desk·sized, after, deskJob, Serves};
 use store::numbers;
 
+pub mod looks; // looks.rt: what a file holds
 pub mod opens; // opens.rt: a fresh store as a file
+pub mod texts; // texts.rt: texts and lines of numbers
 pub mod words; // words.rt: bytes to words and back
 
 // The longest store, in words and in bytes.

@@ -4,19 +4,14 @@ ghost use Prim.Native.Nat.{_≤_};
 ghost use lib.ListN.{length};
 ghost use Rattle.model.specs.Layout.{lengthFor};
 ghost use Rattle.model.specs.Calls.{shapeFor};
-ghost use Rattle.reader.specs.Depot.{Writes};
 ghost use Rattle.store.specs.Cells.{asked};
-ghost use Rattle.disk.specs.Desk.{mostBytes, argument as Desk·argument, newSize, numberLine, freshFor, deskNew, Files, Makes};
+ghost use Rattle.disk.specs.Desk.{mostBytes, argument as Desk·argument, newSize, freshFor, deskNew, Files, Makes};
 use crate::WORDS;
 use crate::room;
+use crate::texts;
 use crate::words;
 use store::numbers::BAD_LIMITS;
-use text::decimals;
-use text::letters;
 use text::numbers;
-
-// Room for the text: any number and LF.
-pub const TEXT: usize = 21;
 
 // An argument's value; what is no number counts as 0, which no limit and no bound may be.
 fn argument(field: &[u8]) -> u32
@@ -66,15 +61,6 @@ fn fresh_for(cards: u32, faults: u32, upper: u32, lower: u32, file: &mut [u8]) -
     Opened { number: 0, len }
 }
 
-// A number as a line of its own, at the front.
-fn put_number(out: &mut [u8], number: u32) -> usize
-    requires { ⌜ newSize ≤ length (now out) ⌝ }
-    ensures { λ r. ⌜ Writes (numberLine number) (now (out .entry)) r (now (out .exit)) ⌝ }
-{
-    let end = decimals::put_decimal(out, 0, number);
-    decimals::put_byte(out, end, letters::LF)
-}
-
 // Open's number; the bytes of the file, none where it is not 0; the bytes of the text.
 pub struct Made {
     pub number: u32,
@@ -100,7 +86,7 @@ pub fn fresh(
     let l = argument(lower);
     let r = fresh_for(c, f, u, l, file);
     let number = r.number;
-    let said = put_number(out, number);
+    let said = texts::put_line(out, 0, number);
     Made {
         number,
         len: r.len,
