@@ -4,3 +4,6 @@ pub mod Lengths
 pub mod Served
 pub mod Making
 pub mod Telling
+pub mod Slashes
+pub mod Keeping
+pub mod Summing

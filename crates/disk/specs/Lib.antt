@@ -1,4 +1,7 @@
--- The bytes of a file and the words of a store, and what `desk` makes of a file.
+-- The bytes of a file and the words of a store; what `desk` makes of a file: a job, a fresh one, what it holds, a report; saved answers; names.
 pub mod Bytes
 pub mod Desk
 pub mod Check
+pub mod Report
+pub mod Last
+pub mod Names

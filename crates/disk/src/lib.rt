@@ -7,8 +7,11 @@ ghost use Rattle.disk.specs.Bytes.{wordsOf};
 ghost use Rattle.disk.specs.Desk.{mostWords, sized as Desk·sized, after, deskJob, Serves};
 use store::numbers;
 
+pub mod lasts; // lasts.rt: saved answers
 pub mod looks; // looks.rt: what a file holds
+pub mod names; // names.rt: the names beside a file's
 pub mod opens; // opens.rt: a fresh store as a file
+pub mod runs; // runs.rt: the report over several files
 pub mod texts; // texts.rt: texts and lines of numbers
 pub mod words; // words.rt: bytes to words and back
 

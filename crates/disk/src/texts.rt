@@ -11,7 +11,8 @@ use text::letters;
 // Room for a number and LF.
 pub const LINE: usize = 21;
 
-fn byte(text: &[u8], i: usize) -> u8
+// A byte.
+pub fn byte(text: &[u8], i: usize) -> u8
     requires { ⌜ i < length (now text) ⌝ }
     ensures { λ r. ⌜ r ≡ getD (now (text .entry)) i 0 ⌝ }
 {
