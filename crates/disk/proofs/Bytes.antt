@@ -64,7 +64,7 @@ pub same-end : (w b : List ℕ) (i at : ℕ) → length w ≤ i → length b ≤
 same-end w b i at h k = rw (drop-of-length-le w h, words-end b at k)
 
 -- both ways round
-four-back : (w : ℕ) → w < 4294967296 → wordOf (w % 256) (w / 256 % 256) (w / 256 / 256 % 256) (w / 256 / 256 / 256 % 256) ≡ w
+pub four-back : (w : ℕ) → w < 4294967296 → wordOf (w % 256) (w / 256 % 256) (w / 256 / 256 % 256) (w / 256 / 256 / 256 % 256) ≡ w
 unfolding wordOf
 four-back w h = omega (arith, mod-add-div w 256, mod-add-div (w / 256) 256, mod-add-div (w / 256 / 256) 256, mod-add-div (w / 256 / 256 / 256) 256)
 

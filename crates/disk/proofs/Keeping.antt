@@ -1,5 +1,5 @@
 -- Two texts compared byte by byte, from a place on (`same-next`, `same-differ`, `same-all`); texts of different lengths are not the same (`same-short`); and
--- the part of a text that is compared (`cut-long`, `cut-at`, `cut-short`).
+-- the part of a text that is compared (`cut-long`, `cut-at`, `cut-short`). Saved answers that belong to a file reach behind its bytes (`belongs-within`).
 use Prim.Native.Nat.{ℕ, _+_, _-_, _≤_, _<_}
 use mathlib.Core.Path.{_≡_, ap, _∙_}
 use mathlib.Core.Bool.{true, false}
@@ -9,11 +9,11 @@ use native.Mathlib.Omega.{arith}
 use lib.ListN.{length, take, drop, getD, length-drop, length-take, drop-of-length-le}
 use lib.Seq.{drop-cons, take-all, length-take-le, getD-take, getD-drop}
 use borrow.Author.Tests.{eq-eqb, ne-eqb}
-use Rattle.rules.proofs.Tests.{by-cases}
+use Rattle.rules.proofs.Tests.{by-cases, both}
 use Rattle.model.specs.Lists.{same}
 use Rattle.model.proofs.Lists.{same-eq}
 use Rattle.disk.specs.Bytes.{four}
-use Rattle.disk.specs.Last.{headOf, headSize, standsAt}
+use Rattle.disk.specs.Last.{headOf, headSize, standsAt, belongs}
 
 module _ (a b : List ℕ) (i : ℕ) where
   pub same-next : i < length a → i < length b → getD a i 0 ≡ getD b i 0 → same (drop (i + 1) a) (drop (i + 1) b) ≡ same (drop i a) (drop i b)
@@ -42,3 +42,12 @@ module _ (text : List ℕ) (at n : ℕ) where
 pub head-within : (file last : List ℕ) → standsAt last 0 (headOf file) ≡ true → headSize ≤ length last
 unfolding headOf four
 head-within file last e = let q : take 4 last ≡ headOf file = same-eq (take 4 last) (headOf file) e in omega (arith, ap length q, length-take 4 last)
+
+-- saved answers that belong to a file reach behind its bytes
+pub belongs-within : (file last : List ℕ) → belongs file last ≡ true → headSize + length file ≤ length last
+unfolding belongs
+belongs-within file last e =
+    let a = both (standsAt last 0 (headOf file)) (standsAt last headSize file) e in
+    let n = length file in
+    let q : take n (drop headSize last) ≡ file = same-eq (take n (drop headSize last)) file (a .1) in
+    omega (arith, head-within file last (a .0), ap length q, length-take n (drop headSize last), length-drop headSize last)

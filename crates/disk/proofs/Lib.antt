@@ -7,3 +7,5 @@ pub mod Telling
 pub mod Slashes
 pub mod Keeping
 pub mod Summing
+pub mod AnswerLines
+pub mod DeskLaws

@@ -3,15 +3,13 @@
 use Prim.Native.Nat.{ℕ, _+_, _≤_}
 use mathlib.Core.Path.{_≡_, refl, ap, _∙_}
 use mathlib.Core.Bool.{Bool, true, false, not}
-use mathlib.Core.List.{List}
+use mathlib.Core.List.{List, []}
 use native.Mathlib.Omega.{arith}
 use lib.ListN.{length}
 use lib.Seq.{sets-eq}
 use Rattle.model.specs.Lists.{same}
-use Rattle.model.specs.Numbers.{notSound}
 use Rattle.text.specs.Decimals.{Puts}
-use Rattle.reader.specs.Depot.{wholeSize, closing, jobOn, Writes, Answers}
-use Rattle.reader.proofs.Closing.{closing-long}
+use Rattle.reader.specs.Depot.{jobOn, Writes, Answers}
 use Rattle.disk.specs.Bytes.{wordsOf, fileOf, WrittenAs}
 use Rattle.disk.specs.Desk.{sized, after, untouched, deskJob, Serves}
 
@@ -35,13 +33,12 @@ module _ (file text out : List ℕ) where
         text-is = e′ .text-is;
       }
 
-  pub closes : length out ≡ wholeSize → 0 + length (closing notSound) ≤ length out
-  closes l = omega (arith, closing-long notSound (omega arith))
-
-  pub serves-none : {r : ℕ} {left : List ℕ} → length out ≡ wholeSize → sized (length file) ≡ false → Puts out 0 (closing notSound) r left
-      → Serves (deskJob file text) out notSound r false file left
+  pub serves-none : {w w′ out′ : List ℕ} {number len : ℕ} → w ≡ [] → sized (length file) ≡ false → Answers (jobOn w text) out number len w′ out′
+      → Serves (deskJob file text) out number len false file out′
   unfolding deskJob untouched
-  serves-none l s p = rw s (record { number-is = refl; save-is = refl; file-is = refl; back-are = refl; text-is = puts-front (closing notSound) (omega (arith, closes l)) p })
+  serves-none {w} {w′} {out′} {number} {len} n s e =
+      let e′ : Answers (jobOn [] text) out number len w′ out′ = rw n at e in
+      rw s (record { number-is = e′ .number-is; save-is = refl; file-is = refl; back-are = refl; text-is = e′ .text-is })
 
   pub serves-some : {number len : ℕ} {save : Bool} {file′ out′ : List ℕ} → sized (length file) ≡ true
       → Serves (after (wordsOf file) (jobOn (wordsOf file) text)) out number len save file′ out′ → Serves (deskJob file text) out number len save file′ out′

@@ -1,25 +1,27 @@
 -- The sizes of files, one after another: the loop's sums (`all-next`, `all-stop`, `sum-next`, `sizes-end`) and the words of each (`lengths-more`,
--- `lengths-end`). Sizes that are stores' and add up have room (`sizes-room`); a report takes as much scratch whatever the stores (`need-all`).
+-- `lengths-end`). Sizes that are stores' and add up have room (`sizes-room`); a report takes as much scratch whatever the stores (`need-all`), and what it writes
+-- lies within the output (`report-within`).
 use Prim.Native.Nat.{ℕ, suc, _+_, _*_, _/_, _≤_, _<_}
-use mathlib.Core.Path.{_≡_, refl, sym, ap, _∙_}
-use mathlib.Core.Bool.{Bool, true, false}
+use mathlib.Core.Path.{_≡_, refl, sym, _∙_}
+use mathlib.Core.Bool.{true, false}
 use mathlib.Core.List.{List, [], _∷_, _++_, map, append-assoc, append-nil}
 use native.Mathlib.Nat.{mod-add-div}
 use native.Mathlib.Numerals.{add-one}
 use native.Mathlib.Omega.{arith}
-use lib.Dec.{eqb}
-use lib.ListN.{length, take, drop, getD, set, drop-of-length-le}
+use lib.Dec.{ltb, eqb}
+use lib.ListN.{length, take, drop, getD, set, length-append, drop-of-length-le}
 use lib.Seq.{drop-cons, take-all, take-suc-set}
 use borrow.Author.Tests.{eqb-true}
 use Rattle.rules.proofs.Tests.{by-cases, both}
 use Rattle.model.specs.Lists.{between, all, total}
 use Rattle.model.specs.Shape.{mostCards, mostFaults, need}
-use Rattle.model.specs.Report.{mostStores, pieces, mostNeed, needOf, refusedReport}
+use Rattle.model.specs.Report.{mostStores, pieces, runSound, allHistories, reportText, mostNeed, needOf, refusedReport, reportCall}
 use Rattle.model.proofs.Lists.{between-is}
 use Rattle.store.specs.Leaves.{Tells}
 use Rattle.store.specs.declared.answer.Wrote.{Wrote}
+use Rattle.disk.specs.Bytes.{wordsOf}
 use Rattle.disk.specs.Desk.{mostWords, sized}
-use Rattle.disk.specs.Report.{wordsIn, sizesOk, Reports}
+use Rattle.disk.specs.Report.{wordsIn, sizesOk, deskReport, Reports}
 use Rattle.disk.proofs.Lengths.{most-words, sized-is}
 
 abbrev pub sum : List ℕ → ℕ
@@ -81,3 +83,22 @@ not-between lo hi x n = by-cases (between lo hi x) (λ e. absurd (n (between-is 
 
 pub refused : {number : ℕ} {out : List ℕ} {r : Wrote} → Tells number 0 r → Reports (refusedReport number out []) r out
 refused t = record { answer = t; out-is = refl }
+
+-- what a report writes lies within the output
+call-within : (run ns scratch out : List ℕ) → reportCall run ns scratch out .count ≤ length (reportCall run ns scratch out .out)
+unfolding reportCall
+call-within run ns scratch out =
+    let text = reportText (allHistories (pieces run ns)) in
+    by-cases (ltb (length scratch) (needOf run ns)) (λ e. rw e (omega arith))
+    (λ e. rw e (by-cases (between 1 mostStores (length ns)) (λ f. rw f (by-cases (runSound run ns)
+    (λ g. rw g (by-cases (ltb (length out) (length text)) (λ h. rw h (omega arith)) (λ h. rw h (omega (arith, length-append text (drop (length text) out))))))
+    (λ g. rw g (omega arith)))) (λ f. rw f (omega arith))))
+
+desk-within : (files sizes out : List ℕ) → deskReport files sizes out .count ≤ length (deskReport files sizes out .out)
+unfolding deskReport
+desk-within files sizes out =
+    by-cases (between 1 mostStores (length sizes)) (λ a. rw a (by-cases (sizesOk (length files) sizes)
+    (λ b. rw b (call-within (wordsOf files) (map wordsIn sizes) _ out)) (λ b. rw b (omega arith)))) (λ a. rw a (omega arith))
+
+pub report-within : (files sizes out : List ℕ) {r : Wrote} {out′ : List ℕ} → Reports (deskReport files sizes out) r out′ → r .count ≤ length out′
+report-within files sizes out e = rw (e .answer .count-is, e .out-is) (desk-within files sizes out)

@@ -1,5 +1,5 @@
 -- What a file holds, as text. The lines are short (`line-most`, `pair-most`), so that all of them have room (`text-most`); a sound store's words are at
--- least as many as stand before the cells (`sound-long`), and its counts stand in the header (`told-is`).
+-- least as many as stand before the cells (`sound-long`), and its counts stand in the header (`told-is`); what is told by 0 is told of a file of a store's length (`seen-sized`).
 use Prim.Native.Nat.{ℕ, zero, suc, _+_, _/_, _%_, _≤_}
 use mathlib.Core.Path.{_≡_}
 use mathlib.Core.Bool.{true}
@@ -8,14 +8,14 @@ use native.Mathlib.Omega.{arith}
 use lib.Dec.{ltb}
 use lib.ListN.{length, getD, length-append}
 use Rattle.rules.proofs.Tests.{by-cases}
-use Rattle.model.specs.Shape.{Shape, entries}
-use Rattle.model.specs.Model.{held, faultsHeld, size}
+use Rattle.model.specs.Shape.{entries}
+use Rattle.model.specs.Model.{held, size}
 use Rattle.model.specs.Layout.{cardsAt, faultsAt, lengthFor, shapeOf, decode, sound}
 use Rattle.model.specs.Text.{digits, decimal}
 use Rattle.model.proofs.Sound.{sound-is}
 use Rattle.model.proofs.Readings.{held-at, faults-held-at}
-use Rattle.disk.specs.Desk.{newSize, numberLine}
-use Rattle.disk.specs.Check.{Seen, told, cardsWord, faultsWord, bucketsWord, boundsWord, ofWord, soundLine, pairLine, soundText, checkSize}
+use Rattle.disk.specs.Desk.{sized, newSize, numberLine}
+use Rattle.disk.specs.Check.{Seen, told, cardsWord, faultsWord, bucketsWord, boundsWord, ofWord, soundLine, pairLine, soundText, checkSize, deskCheck}
 
 digits-most : (fuel n : ℕ) (acc : List ℕ) → length (digits fuel n acc) ≤ fuel + length acc
 unfolding digits
@@ -66,3 +66,8 @@ pub told-is : (w : List ℕ) {c f u l h g b : ℕ} → sound w ≡ true → c �
 told-is w e ec ef eu el eh eg eb =
     let r = sound-is w e .0 in
     rw (ec, ef, eu, el, eh, eg, eb, held-at w (decode w) r, faults-held-at w (decode w) r)
+
+-- what is told of a file by 0 is told of one of a length that a store can have
+pub seen-sized : (file : List ℕ) → deskCheck file .number ≡ 0 → sized (length file) ≡ true
+unfolding deskCheck
+seen-sized file e = by-cases (sized (length file)) (λ s. s) (λ s. absurd (omega (arith, rw s at e)))

@@ -1,31 +1,43 @@
 -- What `desk` makes of a file: a job on it, and a fresh one.
-use Prim.Native.Nat.{ℕ, _*_, _%_}
+use Prim.Native.Nat.{ℕ, _-_, _*_, _%_}
 use mathlib.Core.Path.{_≡_}
 use mathlib.Core.Bool.{Bool, false, not, _&&_, cond}
 use mathlib.Core.List.{List, [], _∷_, _++_}
-use lib.Dec.{leb, eqb}
+use lib.Dec.{eqb}
 use lib.ListN.{length}
-use Rattle.model.specs.Lists.{same}
+use Rattle.model.specs.Lists.{same, between}
 use Rattle.model.specs.Bounds.{cardsEver}
 use Rattle.model.specs.Shape.{faultsEver}
-use Rattle.model.specs.Layout.{firstUpper, firstLower, lengthFor}
-use Rattle.model.specs.Numbers.{notSound}
+use Rattle.model.specs.Layout.{firstUpper, firstLower, faultWidth, lengthFor}
 use Rattle.model.specs.Calls.{Terms, shapeFor, Opened, openCall}
 use Rattle.model.specs.Text.{lf, isNumber, valueFrom, decimal}
 use Rattle.model.specs.Job.{Finished}
-use Rattle.reader.specs.Depot.{blank, closing, wholeText, jobOn, Writes}
+use Rattle.reader.specs.Depot.{blank, wholeText, jobOn, Writes}
 use Rattle.disk.specs.Bytes.{wordsOf, fileOf}
 
--- the longest store, in words and in bytes: that with the highest limits
+-- the words of a store with these limits
+abbrev pub wordsFor : ℕ → ℕ → ℕ
+wordsFor cards faults = lengthFor (shapeFor (record { cards = cards; faults = faults; upper = firstUpper; lower = firstLower }))
+
+-- the shortest store and the longest, in words and in bytes: those with the lowest and the highest limits
+unfoldable pub leastWords : ℕ
+leastWords = wordsFor 1 1
+
 unfoldable pub mostWords : ℕ
-mostWords = lengthFor (shapeFor (record { cards = cardsEver; faults = faultsEver; upper = firstUpper; lower = firstLower }))
+mostWords = wordsFor cardsEver faultsEver
+
+abbrev pub leastBytes : ℕ
+leastBytes = 4 * leastWords
 
 abbrev pub mostBytes : ℕ
 mostBytes = 4 * mostWords
 
--- a length that a store's file can have: whole words, and no more than the longest store's
+-- a length that a store's file can have: a card takes as many words as three faults, so from the shortest store to the longest each fault more makes one
+abbrev pub faultBytes : ℕ
+faultBytes = 4 * faultWidth
+
 unfoldable pub sized : ℕ → Bool
-sized n = leb n mostBytes && eqb (n % 4) 0
+sized n = between leastBytes mostBytes n && eqb ((n - leastBytes) % faultBytes) 0
 
 -- what comes of a file: a number, the words and the bytes of the file afterwards, what is written, and whether the file is to be saved
 pub record Desk : Type 0 where
@@ -39,13 +51,13 @@ pub record Desk : Type 0 where
 unfoldable pub after : List ℕ → Finished → Desk
 after w f = record { number = f .number; words = f .words; file = fileOf (f .words); text = wholeText f; save = not (same (f .words) w) }
 
--- a file of a length that no store has stays as it is: not sound
-unfoldable pub untouched : List ℕ → Desk
-untouched file = record { number = notSound; words = wordsOf file; file = file; text = closing notSound; save = false }
+-- a file of a length that no store has: the job finds no words, which are not those of a sound store, and the file stays as it is
+unfoldable pub untouched : List ℕ → Finished → Desk
+untouched file f = record { number = f .number; words = wordsOf file; file = file; text = wholeText f; save = false }
 
 -- a job on a file
 unfoldable pub deskJob : List ℕ → List ℕ → Desk
-deskJob file text = cond (sized (length file)) (after (wordsOf file) (jobOn (wordsOf file) text)) (untouched file)
+deskJob file text = cond (sized (length file)) (after (wordsOf file) (jobOn (wordsOf file) text)) (untouched file (jobOn [] text))
 
 -- what the program gives and leaves, held to it; the bytes left are read back as the words
 pub record Serves (d : Desk) (out : List ℕ) (number len : ℕ) (save : Bool) (file′ out′ : List ℕ) : Type 0 where

@@ -1,12 +1,16 @@
 // Saved answers: what stands before them, and whether they belong to a file.
 ghost use mathlib.Core.Path.{_≡_};
-ghost use Prim.Native.Nat.{_%_, _≤_};
+ghost use mathlib.Core.Bool.{true};
+ghost use Prim.Native.Nat.{_+_, _%_, _≤_};
 ghost use lib.ListN.{length};
-ghost use Rattle.disk.specs.Last.{headOf, standsAt, belongs as Last·belongs};
+ghost use Rattle.disk.specs.Last.{headOf, headSize, standsAt, belongs as Last·belongs};
 use crate::texts;
 
 // The bytes of the number of words.
 pub const HEAD: usize = 4;
+
+// The longest: the head, a file, all that is written for a job; and one byte more.
+const LAST: usize = HEAD + crate::BYTES + reader::WHOLE + 1;
 
 // The lowest byte of a number.
 fn low(n: usize) -> u8
@@ -20,7 +24,12 @@ pub fn head(file: &[u8]) -> [u8; HEAD]
     ensures { λ r. ⌜ r ≡ headOf (now (file .entry)) ⌝ }
 {
     let n = file.len() / 4;
-    [low(n), low(n / 256), low(n / 256 / 256), low(n / 256 / 256 / 256)]
+    [
+        low(n),
+        low(n / 256),
+        low(n / 256 / 256),
+        low(n / 256 / 256 / 256),
+    ]
 }
 
 // Whether a part stands in a text at a place.
@@ -50,4 +59,19 @@ pub fn belongs(file: &[u8], last: &[u8]) -> bool
         return false;
     }
     stands_at(last, HEAD, file)
+}
+
+// Where the answers begin.
+pub fn answers_at(file: &[u8], last: &[u8]) -> usize
+    requires { ⌜ Last·belongs (now file) (now last) ≡ true ⌝ }
+    ensures { λ r. ⌜ (r ≡ headSize + length (now (file .entry))) × (r ≤ length (now (last .entry))) ⌝ }
+{
+    HEAD + file.len()
+}
+
+// Room for saved answers, and one byte more. The `ensures` gives only the length.
+pub fn room() -> [u8; LAST]
+    ensures { λ r. ⌜ 78990 ≡ length r ⌝ }
+{
+    [0u8; LAST]
 }

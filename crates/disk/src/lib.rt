@@ -1,11 +1,10 @@
 // What `desk` makes of the bytes of a file.
 ghost use mathlib.Core.Path.{_≡_};
-ghost use Prim.Native.Nat.{_*_};
+ghost use Prim.Native.Nat.{_+_, _*_};
 ghost use lib.ListN.{length};
 ghost use Rattle.reader.specs.Depot.{wholeSize, jobOn};
 ghost use Rattle.disk.specs.Bytes.{wordsOf};
-ghost use Rattle.disk.specs.Desk.{mostWords, sized as Desk·sized, after, deskJob, Serves};
-use store::numbers;
+ghost use Rattle.disk.specs.Desk.{mostWords, mostBytes, sized as Desk·sized, after, deskJob, Serves};
 
 pub mod lasts; // lasts.rt: saved answers
 pub mod looks; // looks.rt: what a file holds
@@ -20,14 +19,24 @@ const WORDS: usize = store::MOST_WORDS;
 
 pub const BYTES: usize = 4 * WORDS;
 
-// Whether a store's file can have this length: whole words, and no more than the longest store's.
+const FILE: usize = BYTES + 1;
+
+// The bytes of the shortest store, and of a fault more.
+const LEAST_BYTES: usize = 4 * (store::CARDS_AT + store::CARD_WIDTH + store::FAULT_WIDTH);
+
+const FAULT_BYTES: usize = 4 * store::FAULT_WIDTH;
+
+// Whether a store's file can have this length: from the shortest store to the longest each fault more is one.
 pub fn sized(n: usize) -> bool
     ensures { λ r. ⌜ r ≡ Desk·sized n ⌝ }
 {
+    if n < LEAST_BYTES {
+        return false;
+    }
     if BYTES < n {
         return false;
     }
-    n % 4 == 0
+    (n - LEAST_BYTES) % FAULT_BYTES == 0
 }
 
 // Room for the words of the longest store. The `ensures` gives only the length.
@@ -42,6 +51,13 @@ pub fn output() -> [u8; reader::WHOLE]
     ensures { λ r. ⌜ wholeSize ≡ length r ⌝ }
 {
     [0u8; reader::WHOLE]
+}
+
+// Room for a file, and one byte more, which tells a file that is too long.
+pub fn file_room() -> [u8; FILE]
+    ensures { λ r. ⌜ mostBytes + 1 ≡ length r ⌝ }
+{
+    [0u8; FILE]
 }
 
 // How a job ended, how long its text is, and whether the file has changed.
@@ -73,10 +89,11 @@ pub fn serve(file: &mut [u8], text: &[u8], out: &mut [u8]) -> Outcome
     ensures { λ r. ⌜ Serves (deskJob (now (file .entry)) (now (text .entry))) (now (out .entry)) (r .number) (r .len) (r .save) (now (file .exit)) (now (out .exit)) ⌝ }
 {
     if !sized(file.len()) {
-        let len = reader::close(out, 0, numbers::NOT_SOUND);
+        let mut none = [0u32; 1];
+        let e = reader::answer_on(&mut none[..0], text, out);
         return Outcome {
-            number: numbers::NOT_SOUND,
-            len,
+            number: e.number,
+            len: e.len,
             save: false,
         };
     }

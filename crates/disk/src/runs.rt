@@ -14,18 +14,35 @@ use crate::words;
 use store::Wrote;
 use store::numbers;
 
-// The most files, their words and their bytes.
+// The most files, their words, their bytes and one more.
 pub const FILES: usize = 8;
 
 const ALL_WORDS: usize = FILES * WORDS;
 
-pub const ALL_BYTES: usize = 4 * ALL_WORDS;
+const ALL_FILES: usize = 4 * ALL_WORDS + 1;
+
+// The longest text: 55 bytes for each of 9,999 codes, and 44 for the totals.
+const TEXT: usize = 55 * 9999 + 44;
 
 // Room for the words of all files. The `ensures` gives only the length.
 fn room_for_all() -> [u32; ALL_WORDS]
     ensures { λ r. ⌜ mostStores * mostWords ≡ length r ⌝ }
 {
     [0u32; ALL_WORDS]
+}
+
+// Room for the bytes of all files, and one byte more, which tells that the last is too long. The `ensures` gives only the length.
+pub fn files_room() -> [u8; ALL_FILES]
+    ensures { λ r. ⌜ 500737 ≡ length r ⌝ }
+{
+    [0u8; ALL_FILES]
+}
+
+// Room for the text of any report. The `ensures` gives only the length.
+pub fn output() -> [u8; TEXT]
+    ensures { λ r. ⌜ 549989 ≡ length r ⌝ }
+{
+    [0u8; TEXT]
 }
 
 // Whether each size is one that a store's file can have, and they add up.

@@ -1,29 +1,20 @@
 -- `disk::serve` meets its contract: a file of a length that no store has stays; of any other the words have room.
 use native.Mathlib.Omega.{arith}
 use Prim.Native.Nat.{ℕ, _*_}
-use mathlib.Core.Path.{sym, ap, _∙_}
+use mathlib.Core.Path.{refl, sym, ap, _∙_}
 use lib.Seq.{length-take-le}
 use borrow.Author.Tests.{not-true, not-false}
 use Rattle.disk.proofs.Lengths.{sized-is}
-use Rattle.disk.proofs.Served.{closes, serves-none, serves-some}
+use Rattle.disk.proofs.Served.{serves-none, serves-some}
 use borrow.Author.Needs.{needs}
 use Rattle.disk.proofs.serve.Statement.{statement}
 use Rattle.disk.proofs.serve.Tie as tie
 
-sized-requires : tie.Need-sized-requires
-sized-requires c κs = search needs
-
-close-requires : tie.Need-close-requires
-close-requires c κs = let s = c .before .before .before .before .before .before in closes (s .args .file .now) (s .args .text .now) (s .args .out .now) (s .pre)
-
-same-length : tie.Need-same-length
-same-length c = search needs
-
 returns : tie.Need-returns
-returns c = let s = c .before .before .before .before .before .before .before .before .before in let d = c .before .before .before .before .before .sized in serves-none (s .args .file .now) (s .args .text .now) (s .args .out .now) (s .pre) (sym (d .ensures) ∙ not-true (d .result) (c .before .before .before .before .if1 .taken)) (c .before .before .close .ensures)
-
-room-requires : tie.Need-room-requires
-room-requires c κs = search needs
+returns c =
+    let s = c .before .before .before .before .before .before .before .before .before .before .before in
+    let d = c .before .before .before .before .before .before .before .sized in
+    serves-none (s .args .file .now) (s .args .text .now) (s .args .out .now) refl (sym (d .ensures) ∙ not-true (d .result) (c .before .before .before .before .before .before .if1 .taken)) (c .before .before .before .answer-on .ensures)
 
 array-borrow-prefix-space : tie.Need-array-borrow-prefix-space
 array-borrow-prefix-space c = let d = c .before .before .before .sized in omega (arith, c .before .room .ensures, sized-is _ (sym (d .ensures) ∙ not-false (d .result) (c .before .before .if1 .left)) .0)
@@ -38,12 +29,6 @@ serve-in-requires c κs =
     let z = sized-is _ (sym (d .ensures) ∙ not-false (d .result) (c .before .before .before .before .if1 .left)) in
     (z .1 ∙ ap (λ (n : ℕ). 4 * n) (sym (length-take-le _ (r .result) (omega (arith, r .ensures, z .0)))), c .before .before .before .before .before .before .before .before .before .pre)
 
-same-length-2 : tie.Need-same-length-2
-same-length-2 c = search needs
-
-same-length-3 : tie.Need-same-length-3
-same-length-3 c = search needs
-
 returns-2 : tie.Need-returns-2
 returns-2 c = let s = c .before .before .before .before .before .before .before .before .before .before .before .before .before .before .before in let d = c .before .before .before .before .before .before .before .before .before .before .before .sized in serves-some (s .args .file .now) (s .args .text .now) (s .args .out .now) (sym (d .ensures) ∙ not-false (d .result) (c .before .before .before .before .before .before .before .before .before .before .if1 .left)) (c .before .before .before .before .before .serve-in .ensures)
 
@@ -51,14 +36,16 @@ pub serve-spec : {M : Type 1} → statement M
 serve-spec =
     tie.close
     (tie.spec
-    sized-requires
-    close-requires
-    same-length
+    (λ c κs. search needs)
+    (λ c. search needs)
+    (λ c. search needs)
+    (λ c κs. search needs)
+    (λ c. search needs)
     returns
-    room-requires
+    (λ c κs. search needs)
     array-borrow-prefix-space
     slice-aggregate-serve-in
     serve-in-requires
-    same-length-2
-    same-length-3
+    (λ c. search needs)
+    (λ c. search needs)
     returns-2)

@@ -1,12 +1,7 @@
 -- `disk::lasts::belongs` meets its contract: the head stands first, and the file's bytes behind it.
-use mathlib.Core.Path.{_≡_, sym, ap, _∙_}
-use mathlib.Core.Bool.{true}
-use native.Mathlib.Omega.{arith}
-use lib.ListN.{length, take}
+use mathlib.Core.Path.{sym, _∙_}
 use borrow.Author.Tests.{not-true, not-false}
-use Rattle.model.proofs.Lists.{same-eq}
-use Rattle.disk.specs.Bytes.{four}
-use Rattle.disk.specs.Last.{headOf, standsAt, belongs}
+use Rattle.disk.specs.Last.{belongs}
 use Rattle.disk.proofs.Keeping.{head-within}
 use borrow.Author.Needs.{needs}
 use Rattle.disk.proofs.lasts.belongs.Statement.{statement}
@@ -17,7 +12,7 @@ unfolding belongs
 returns c = let t = c .before .stands-at in rw (← (c .before .before .before .head .ensures), sym (t .ensures) ∙ not-true (t .result) (c .if1 .taken))
 
 stands-at-requires-2 : tie.Need-stands-at-requires-2
-stands-at-requires-2 c κs = 
+stands-at-requires-2 c κs =
     let t = c .before .stands-at in
     let a = c .before .before .before .before .before .before .args in
     head-within (a .file .now) (a .last .now) (rw (← (c .before .before .before .head .ensures)) (sym (t .ensures) ∙ not-false (t .result) (c .if1 .left)))

@@ -35,7 +35,7 @@ byte-requires : tie.Need-byte-requires Inv-loop μ-loop
 byte-requires c κs = omega (arith, c .before .before .before .before .before .pre, c .before .before .if1 .left)
 
 returns-2 : tie.Need-returns-2 Inv-loop μ-loop
-returns-2 c = 
+returns-2 c =
     let s = c .before .before .before .before .before .before .before .before in
     let a = s .args in
     let j = c .before .before .before .before .loop in
@@ -45,17 +45,19 @@ returns-2 c =
     (λ e. c .if2 .taken (c .before .before .byte .ensures ∙ sym (cut-at (a .text .now) (a .at) n (j .i) (omega arith)) ∙ e ∙ sym (c .before .byte2 .ensures))))
 
 loop-again : tie.Need-loop-again Inv-loop μ-loop
-loop-again c = 
+loop-again c =
     let s = c .before .before .before .before .before .before .before .before in
     let a = s .args in
     let j = c .before .before .before .before .loop in
     let n = length (a .part .now) in
-    let l : length (cut (a .text .now) (a .at) (a .part .now)) ≡ n = cut-long (a .text .now) (a .at) n (omega (arith, s .pre, c .before .before .before .before .before .if1 .left)) in
-    (omega arith, same-next (cut (a .text .now) (a .at) (a .part .now)) (a .part .now) (j .i) (omega (arith, l)) (omega arith)
-    (cut-at (a .text .now) (a .at) n (j .i) (omega arith) ∙ sym (c .before .before .byte .ensures) ∙ c .if2 .left ∙ c .before .byte2 .ensures) ∙ j .inv .1)
+    let l : length (cut (a .text .now) (a .at) (a .part .now)) ≡ n = cut-long (a .text .now) (a .at) n (omega (arith, s .pre, c .before .before .before .before .before .if1 .left)) in (
+      omega arith,
+      same-next (cut (a .text .now) (a .at) (a .part .now)) (a .part .now) (j .i) (omega (arith, l)) (omega arith)
+          (cut-at (a .text .now) (a .at) n (j .i) (omega arith) ∙ sym (c .before .before .byte .ensures) ∙ c .if2 .left ∙ c .before .byte2 .ensures) ∙ j .inv .1,
+    )
 
 returns-3 : tie.Need-returns-3 Inv-loop μ-loop
-returns-3 c = 
+returns-3 c =
     let s = c .before .before .before .before .before in
     let a = s .args in
     let j = c .before .loop in

@@ -27,14 +27,14 @@ put-text-requires : tie.Need-put-text-requires
 put-text-requires c κs = omega (arith, c .before .before .before .pre)
 
 put-pair-requires : tie.Need-put-pair-requires
-put-pair-requires c κs = 
+put-pair-requires c κs =
     let s = c .before .before .before .before .before .before .before .before .before in
     let x = seenIn (s .args .s) in
     let p1 = c .before .before .before .before .before .put-text .ensures in
     omega (arith, s .pre, p1 .end-is, puts-length soundLine p1)
 
 put-pair-requires-2 : tie.Need-put-pair-requires-2
-put-pair-requires-2 c κs = 
+put-pair-requires-2 c κs =
     let s = c .before .before .before .before .before .before .before .before .before .before .before .before .before .before .before in
     let x = seenIn (s .args .s) in
     let p1 = c .before .before .before .before .before .before .before .before .before .before .before .put-text .ensures in
@@ -42,7 +42,7 @@ put-pair-requires-2 c κs =
     omega (arith, s .pre, p1 .end-is, puts-length soundLine p1, p2 .end-is, puts-length (cards x) p2, pair-most cardsWord (x .held) ofWord (x .limit))
 
 put-text-requires-2 : tie.Need-put-text-requires-2
-put-text-requires-2 c κs = 
+put-text-requires-2 c κs =
     let s = c .before .before .before .before .before .before .before .before .before .before .before .before .before .before .before .before .before .before .before .before in
     let x = seenIn (s .args .s) in
     let p1 = c .before .before .before .before .before .before .before .before .before .before .before .before .before .before .before .before .put-text .ensures in
@@ -51,7 +51,7 @@ put-text-requires-2 c κs =
     omega (arith, s .pre, p1 .end-is, puts-length soundLine p1, p2 .end-is, puts-length (cards x) p2, pair-most cardsWord (x .held) ofWord (x .limit), p3 .end-is, puts-length (faults x) p3, pair-most faultsWord (x .faults) ofWord (x .faultLimit))
 
 put-line-requires : tie.Need-put-line-requires
-put-line-requires c κs = 
+put-line-requires c κs =
     let s = c .before .before .before .before .before .before .before .before .before .before .before .before .before .before .before .before .before .before .before .before .before .before .before .before in
     let x = seenIn (s .args .s) in
     let p1 = c .before .before .before .before .before .before .before .before .before .before .before .before .before .before .before .before .before .before .before .before .put-text .ensures in
@@ -61,7 +61,7 @@ put-line-requires c κs =
     omega (arith, s .pre, p1 .end-is, puts-length soundLine p1, p2 .end-is, puts-length (cards x) p2, pair-most cardsWord (x .held) ofWord (x .limit), p3 .end-is, puts-length (faults x) p3, pair-most faultsWord (x .faults) ofWord (x .faultLimit), p4 .end-is, puts-length bucketsWord p4)
 
 put-pair-requires-3 : tie.Need-put-pair-requires-3
-put-pair-requires-3 c κs = 
+put-pair-requires-3 c κs =
     let s = c .before .before .before .before .before .before .before .before .before .before .before .before .before .before .before .before .before .before .before .before .before .before .before .before .before .before .before .before .before .before in
     let x = seenIn (s .args .s) in
     let p1 = c .before .before .before .before .before .before .before .before .before .before .before .before .before .before .before .before .before .before .before .before .before .before .before .before .before .before .put-text .ensures in
@@ -73,7 +73,7 @@ put-pair-requires-3 c κs =
 
 returns : tie.Need-returns
 unfolding soundText
-returns c = 
+returns c =
     let x = seenIn (c .before .before .before .before .before .before .before .before .before .before .before .before .before .before .before .before .before .before .before .before .before .before .before .before .before .before .before .before .before .before .before .before .before .args .s) in
     let last = buckets x ++ bounds x in
     puts-then soundLine (cards x ++ (faults x ++ last)) (c .before .before .before .before .before .before .before .before .before .before .before .before .before .before .before .before .before .before .before .before .before .before .before .before .before .before .before .before .before .put-text .ensures) (puts-then (cards x) (faults x ++ last) (c .before .before .before .before .before .before .before .before .before .before .before .before .before .before .before .before .before .before .before .before .before .before .before .put-pair .ensures) (puts-then (faults x) last (c .before .before .before .before .before .before .before .before .before .before .before .before .before .before .before .before .before .put-pair2 .ensures)

@@ -18,13 +18,13 @@ array-borrow-prefix-space : tie.Need-array-borrow-prefix-space
 array-borrow-prefix-space c = let d = c .before .before .sized in omega (arith, c .room .ensures, sized-is _ (sym (d .ensures) ∙ not-false (d .result) (c .before .if1 .left)) .0)
 
 slice-aggregate-see-in : tie.Need-slice-aggregate-see-in
-slice-aggregate-see-in c = 
+slice-aggregate-see-in c =
     let d = c .before .before .before .sized in
     let r = c .before .room in
     sym (length-take-le _ (r .result) (omega (arith, r .ensures, sized-is _ (sym (d .ensures) ∙ not-false (d .result) (c .before .before .if1 .left)) .0)))
 
 see-in-requires : tie.Need-see-in-requires
-see-in-requires c κs = 
+see-in-requires c κs =
     let d = c .before .before .before .sized in
     let r = c .before .room in
     let z = sized-is _ (sym (d .ensures) ∙ not-false (d .result) (c .before .before .if1 .left)) in

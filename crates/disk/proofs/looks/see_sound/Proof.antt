@@ -14,7 +14,7 @@ word-requires-2 : tie.Need-word-requires-2
 word-requires-2 c κs = let s = c .before .before .before in omega (arith, sound-long (s .args .w .now) (s .pre))
 
 returns : tie.Need-returns
-returns c = 
+returns c =
     let s = c .before .before .before .before .before in
     let h = sym (c .before .before .before .header-of .ensures .shape) in
     told-is (s .args .w .now) (s .pre) (ap (λ (sh : Shape). sh .limit) h) (ap (λ (sh : Shape). sh .faultLimit) h) (ap (λ (sh : Shape). sh .upper) h) (ap (λ (sh : Shape). sh .lower) h) (c .before .before .word .ensures) (c .before .word2 .ensures) (c .buckets .ensures)

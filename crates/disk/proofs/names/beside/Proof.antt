@@ -11,7 +11,7 @@ use Rattle.disk.proofs.names.beside.Statement.{statement}
 use Rattle.disk.proofs.names.beside.Tie as tie
 
 returns : tie.Need-returns
-returns c = 
+returns c =
     let s = c .before .before .before .before .before .before .before .before .before .before .before in
     let path = s .args .path .now in
     let ending = s .args .ending .now in

@@ -10,7 +10,7 @@ use Rattle.disk.proofs.opens.fresh.Tie as tie
 
 returns : tie.Need-returns
 unfolding deskNew
-returns c = 
+returns c =
     let s = c .before .before .before .before .before .before .before .before .before .before .before .before .before .before .before .before .before .before .args in
     let t = termsFrom (s .cards .now) (s .faults .now) (s .upper .now) (s .lower .now) in
     let r = c .before .before .before .before .before .before .fresh-for in

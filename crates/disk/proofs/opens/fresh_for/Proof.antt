@@ -27,7 +27,7 @@ slice-aggregate-open : tie.Need-slice-aggregate-open
 slice-aggregate-open c = let r = c .before .room in sym (length-take-le _ (r .result) (omega (arith, most-words, r .ensures, c .before .before .if1 .left)))
 
 returns-2 : tie.Need-returns-2
-returns-2 c = 
+returns-2 c =
     let m = c .not-made2 .ensures in
     let s = c .before .before .before .before .before .before .before .before .before in
     let n = c .before .before .before .before .before .before .before .length-for in
@@ -36,7 +36,7 @@ returns-2 c =
     rw (m .0, m .1) (refused-made (terms s) (s .args .file .now) (take (n .result) (r .result)) (length-take-le (n .result) (r .result) (omega (arith, most-words, r .ensures, c .before .before .before .before .before .before .if1 .left)) ∙ n .ensures) (o .ensures .number-is) (c .before .if2 .taken))
 
 array-share-prefix-space : tie.Need-array-share-prefix-space
-array-share-prefix-space c = 
+array-share-prefix-space c =
     let s = c .before .before .before .before .before .before .before .before in
     let n = c .before .before .before .before .before .before .length-for in
     let r = c .before .before .before .before .room in
@@ -44,7 +44,7 @@ array-share-prefix-space c =
     omega (arith, n .ensures, opened-long (take (n .result) (r .result)) (terms s) (c .if2 .left) (o .ensures .number-is) (o .ensures .words-are), length-append (o .last .0) (drop (n .result) (r .result)))
 
 slice-aggregate-write : tie.Need-slice-aggregate-write
-slice-aggregate-write c = 
+slice-aggregate-write c =
     let s = c .before .before .before .before .before .before .before .before .before in
     let n = c .before .before .before .before .before .before .before .length-for in
     let r = c .before .before .before .before .before .room in
@@ -56,7 +56,7 @@ slice-aggregate-write-2 : tie.Need-slice-aggregate-write-2
 slice-aggregate-write-2 c = let s = c .before .before .before .before .before .before .before .before .before .before in let n = c .before .before .before .before .before .before .before .before .length-for in sym (length-take-le (4 * n .result) (s .args .file .now) (omega (arith, most-words, s .pre, n .ensures, c .before .before .before .before .before .before .before .if1 .left)))
 
 write-requires : tie.Need-write-requires
-write-requires c κs = 
+write-requires c κs =
     let s = c .before .before .before .before .before .before .before .before .before .before in
     let n = c .before .before .before .before .before .before .before .before .length-for in
     let r = c .before .before .before .before .before .before .room in
@@ -66,7 +66,7 @@ write-requires c κs =
     ∙ ap (λ (k : ℕ). 4 * k) (sym (length-take-le (n .result) (o .last .0 ++ drop (n .result) (r .result)) (omega (arith, n .ensures, length-append (o .last .0) (drop (n .result) (r .result))))))
 
 returns-3 : tie.Need-returns-3
-returns-3 c = 
+returns-3 c =
     let s = c .before .before .before .before .before .before .before .before .before .before .before .before .before in
     let n = c .before .before .before .before .before .before .before .before .before .before .before .length-for in
     let r = c .before .before .before .before .before .before .before .before .before .room in

@@ -1,7 +1,7 @@
 -- `disk::runs::lengths_of` meets its contract. The loop's invariant: the lengths so far, with those of the sizes that are left, are all lengths.
 use mathlib.Core.Path.{_≡_, refl, ap}
 use mathlib.Core.List.{_++_, map}
-use Prim.Native.Nat.{ℕ, _-_, _/_, _≤_}
+use Prim.Native.Nat.{_-_, _/_, _≤_}
 use native.Mathlib.Omega.{arith}
 use lib.ListN.{length, take, drop, length-set}
 use Rattle.disk.specs.Report.{wordsIn}
@@ -19,7 +19,7 @@ loop-holds : tie.Need-loop-holds Inv-loop μ-loop
 loop-holds c = (omega arith, refl, refl)
 
 loop-again : tie.Need-loop-again Inv-loop μ-loop
-loop-again c = 
+loop-again c =
     let sizes = c .before .before .before .before .before .args .sizes .now in
     let j = c .before .before .loop in
     let v = c .word .result / 4 in

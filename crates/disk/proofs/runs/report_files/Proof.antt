@@ -1,7 +1,6 @@
 -- `disk::runs::report_files` meets its contract: each refusal where the definition has it; else the words have room.
 use Prim.Native.Nat.{ℕ, _*_}
 use mathlib.Core.Path.{sym, ap, _∙_}
-use mathlib.Core.List.{List}
 use native.Mathlib.Omega.{arith}
 use lib.ListN.{length}
 use lib.Seq.{length-take-le}
@@ -27,24 +26,24 @@ sizes-ok-requires c κs = omega (arith, c .if2 .left)
 
 returns-3 : tie.Need-returns-3
 unfolding deskReport
-returns-3 c = 
+returns-3 c =
     let d = c .before .before .sizes-ok in
     rw (between-is 1 mostStores (length (c .before .before .before .before .before .before .before .before .args .sizes .now)) .1 (omega (arith, c .before .before .before .before .if1 .left), omega (arith, c .before .before .before .if2 .left)), sym (d .ensures) ∙ not-true (d .result) (c .before .if3 .taken))
     (refused (c .refuse3 .ensures))
 
 array-borrow-prefix-space : tie.Need-array-borrow-prefix-space
-array-borrow-prefix-space c = 
+array-borrow-prefix-space c =
     let d = c .before .before .sizes-ok in
     omega (arith, c .room-for-all .ensures, sizes-room _ (c .before .before .before .before .before .before .before .before .args .sizes .now) (sym (d .ensures) ∙ not-false (d .result) (c .before .if3 .left)) (omega (arith, c .before .before .before .if2 .left)) .0)
 
 slice-aggregate-report-in : tie.Need-slice-aggregate-report-in
-slice-aggregate-report-in c = 
+slice-aggregate-report-in c =
     let d = c .before .before .before .sizes-ok in
     let r = c .before .room-for-all in
     sym (length-take-le _ (r .result) (omega (arith, r .ensures, sizes-room _ (c .before .before .before .before .before .before .before .before .before .args .sizes .now) (sym (d .ensures) ∙ not-false (d .result) (c .before .before .if3 .left)) (omega (arith, c .before .before .before .before .if2 .left)) .0)))
 
 report-in-requires : tie.Need-report-in-requires
-report-in-requires c κs = 
+report-in-requires c κs =
     let d = c .before .before .before .before .sizes-ok in
     let r = c .before .before .room-for-all in
     let z = sizes-room _ (c .before .before .before .before .before .before .before .before .before .before .args .sizes .now) (sym (d .ensures) ∙ not-false (d .result) (c .before .before .before .if3 .left)) (omega (arith, c .before .before .before .before .before .if2 .left)) in
@@ -52,7 +51,7 @@ report-in-requires c κs =
 
 returns-4 : tie.Need-returns-4
 unfolding deskReport
-returns-4 c = 
+returns-4 c =
     let d = c .before .before .before .before .before .before .before .before .sizes-ok in
     rw (between-is 1 mostStores (length (c .before .before .before .before .before .before .before .before .before .before .before .before .before .before .args .sizes .now)) .1 (omega (arith, c .before .before .before .before .before .before .before .before .before .before .if1 .left), omega (arith, c .before .before .before .before .before .before .before .before .before .if2 .left)), sym (d .ensures) ∙ not-false (d .result) (c .before .before .before .before .before .before .before .if3 .left))
     (c .before .before .before .report-in .ensures)

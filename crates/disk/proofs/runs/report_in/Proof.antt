@@ -1,9 +1,7 @@
 -- `disk::runs::report_in` meets its contract: the words are read, and their lengths are the sizes' quarters.
-use mathlib.Core.Path.{_≡_, sym, ap, _∙_}
-use mathlib.Core.List.{_++_, map}
-use Prim.Native.Nat.{ℕ}
+use mathlib.Core.Path.{sym, ap, _∙_}
 use native.Mathlib.Omega.{arith}
-use lib.ListN.{length, take, drop, length-append, length-map, replicate}
+use lib.ListN.{length, drop, length-append, length-map, replicate}
 use lib.Seq.{length-take-le, take-at}
 use Rattle.disk.specs.Report.{wordsIn}
 use borrow.Author.Needs.{needs}
@@ -17,19 +15,19 @@ lengths-of-requires : tie.Need-lengths-of-requires
 lengths-of-requires c κs = sym (length-take-le _ _ (omega (arith, c .before .before .before .before .before .before .before .before .before .pre .1)))
 
 array-share-prefix-lengths : tie.Need-array-share-prefix-lengths
-array-share-prefix-lengths c = 
+array-share-prefix-lengths c =
     let s = c .before .before .before .before .before .before .before .before .before .before .before .before in
     let l = c .before .before .lengths-of in
     omega (arith, ap length (l .ensures), length-map (s .args .sizes .now) wordsIn, length-append (l .last .1 .0) (drop (length (s .args .sizes .now)) (replicate 8 0)))
 
 slice-aggregate-report-on : tie.Need-slice-aggregate-report-on
-slice-aggregate-report-on c = 
+slice-aggregate-report-on c =
     let s = c .before .before .before .before .before .before .before .before .before .before .before .before .before in
     let l = c .before .before .before .lengths-of in
     sym (length-take-le _ _ (omega (arith, ap length (l .ensures), length-map (s .args .sizes .now) wordsIn, length-append (l .last .1 .0) (drop (length (s .args .sizes .now)) (replicate 8 0)))))
 
 returns : tie.Need-returns
-returns c = 
+returns c =
     let s = c .before .before .before .before .before .before .before .before .before .before .before .before .before .before .before .before .before in
     let l = c .before .before .before .before .before .before .before .lengths-of in
     let n = length (s .args .sizes .now) in

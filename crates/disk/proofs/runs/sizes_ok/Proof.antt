@@ -24,7 +24,7 @@ loop-holds c = (omega arith, refl, omega arith, omega arith)
 
 returns : tie.Need-returns Inv-loop μ-loop
 unfolding sizesOk
-returns c = 
+returns c =
     let l = c .before .before .before .before .before .before .before .args .sizes .now in
     let j = c .before .before .before .before .before .loop in
     let d = c .before .sized in
@@ -32,14 +32,14 @@ returns c =
     rw (sym (j .inv .1) ∙ all-stop l (j .i) (omega arith) (rw (c .before .before .wide .ensures) at e))
 
 add-sum : tie.Need-add-sum Inv-loop μ-loop
-add-sum c = 
+add-sum c =
     let j = c .before .before .before .before .before .loop in
     let d = c .before .sized in
     let z = sized-is (c .before .before .wide .result) (sym (d .ensures) ∙ not-false (d .result) (c .if1 .left)) in
     omega (arith, most-words, z .0, z .1, j .inv .3, c .before .before .before .before .before .before .before .pre)
 
 loop-again : tie.Need-loop-again Inv-loop μ-loop
-loop-again c = 
+loop-again c =
     let l = c .before .before .before .before .before .before .before .args .sizes .now in
     let j = c .before .before .before .before .before .loop in
     let d = c .before .sized in

@@ -14,20 +14,20 @@ put-text-requires : tie.Need-put-text-requires
 put-text-requires c κs = omega (arith, c .before .before .before .before .pre)
 
 put-decimal-requires : tie.Need-put-decimal-requires
-put-decimal-requires c κs = 
+put-decimal-requires c κs =
     let s = c .before .before .before .before .before .before .before .before in
     let p = c .before .before .before .put-text .ensures in
     omega (arith, s .pre, p .end-is, puts-length (s .args .word .now) p, decimal-most (s .args .a))
 
 put-text-requires-2 : tie.Need-put-text-requires-2
-put-text-requires-2 c κs = 
+put-text-requires-2 c κs =
     let s = c .before .before .before .before .before .before .before .before .before .before .before .before in
     let p = c .before .before .before .before .before .before .before .put-text .ensures in
     let q = c .before .before .before .put-decimal .ensures in
     omega (arith, s .pre, p .end-is, puts-length (s .args .word .now) p, q .end-is, puts-length (decimal (s .args .a)) q, decimal-most (s .args .a))
 
 put-line-requires : tie.Need-put-line-requires
-put-line-requires c κs = 
+put-line-requires c κs =
     let s = c .before .before .before .before .before .before .before .before .before .before .before .before .before .before .before .before in
     let p = c .before .before .before .before .before .before .before .before .before .before .before .put-text .ensures in
     let q = c .before .before .before .before .before .before .before .put-decimal .ensures in
@@ -36,7 +36,7 @@ put-line-requires c κs =
 
 returns : tie.Need-returns
 unfolding pairLine
-returns c = 
+returns c =
     let s = c .before .before .before .before .before .before .before .before .before .before .before .before .before .before .before .before .before .before .before .args in
     let rest = s .between .now ++ numberLine (s .b) in
     puts-then (s .word .now) (decimal (s .a) ++ rest) (c .before .before .before .before .before .before .before .before .before .before .before .before .before .before .put-text .ensures) (puts-then (decimal (s .a)) rest (c .before .before .before .before .before .before .before .before .before .before .put-decimal .ensures) (puts-then (s .between .now) (numberLine (s .b)) (c .before .before .before .before .before .before .put-text2 .ensures) (c .before .before .put-line .ensures)))
