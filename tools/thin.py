@@ -568,31 +568,6 @@ class Walk:
             Says r zs = {self.relation} {firsts} h {self.done_left} {self.tally_left} {lasts}
             """)
 
-    def exits_by(self, claims, held, struct, answer, answer_claim, tally_last, steps):
-        """`exits`: what is held when the locals are freed is what is to be shown.
-
-        claims        what is known of what came back, by the claims' names
-        held          what is held but the last lists, which the steps bring in order
-        struct        that of the answer, which has its machine value by answer_claim
-        tally_last    what is bound of the tally at exit
-        """
-        fits = spaced(each.fits for each in self.mutable_slices)
-        claimed = " → ".join([*claims.values(), "Says r zs", *(each.fits_claim for each in self.mutable_slices)])
-        entries = listed([*held, *(each.last_had for each in reversed(self.mutable_slices))])
-        ends = nested([each.last for each in self.slices] + [tally_last])
-        ends_fit = nested([each.fits for each in self.slices] + ["tt"])
-        lemma = block(f"""
-            exits : (r : {self.returned}) (zs : Ends) → {claimed}
-                → ent 𝓤 (⋆ 𝓤 H A ({entries})) (Post ({struct.value(answer)}))
-            exits r zs {spaced(claims)} e {fits} =
-                qed W ({entries}) ∵
-                suffices ! _ (ends-at 𝓤 H A here.ended stayed (here.clauses 𝓤 H A at-mem run′) W {self.entry} \
-                    ({struct.value(answer)}) {answer}
-                {ends} {ends_fit}) $ says ! e $
-            """)
-        result = f"{struct.owned(answer, answer_claim)} {move(1, 0)} done !"
-        return lemma + "\n" + indent(steps + "\n" + result, "    ")
-
     def slices_had(self):
         """Step of `exits`: what is had of the slices is joined to what is had of the tally, the last slice first."""
         return spaced(each.had_step for each in reversed(self.slices))
@@ -800,22 +775,32 @@ class Walk:
         return f"what is said of the outcome, of what `{self.callee}` returns and of its slices' last lists"
 
     def exits(self):
-        observed = f"‵ (fobs γ (R .coded .code {self.tally_left}))"
-        return self.exits_by(
-            claims={"gd": self.done.has_value(self.done_left)},
-            held=[observed, "‵ (fbor κ′ (Body (mem R) b o γ))", "‵ (flft κ′ q′)", "tokens"],
-            struct=self.done,
-            answer=self.done_left,
-            answer_claim="gd",
-            tally_last=f"r .{self.tally_field}",
-            steps=block(f"""
-                -- the tokens
-                {self.join_token(3)} frame ! $
-                -- what is had of the parameters, and the result
-                feqI ! (List Val) (vptr b o ∷ []) (vptr b o ∷ []) refl $ fjoin3 ! $ nothing ! $ {move(1, 0)} fjoin ! $ \
-                    {self.slices_had()}
-                """),
-        )
+        """`exits`: what is held when the locals are freed is what is to be shown."""
+        held = [f"‵ (fobs γ (R .coded .code {self.tally_left}))", "‵ (fbor κ′ (Body (mem R) b o γ))", "‵ (flft κ′ q′)", "tokens"]
+        answer = self.done_left
+        fits = spaced(each.fits for each in self.mutable_slices)
+        claimed = " → ".join([self.done.has_value(answer), "Says r zs", *(each.fits_claim for each in self.mutable_slices)])
+        entries = listed([*held, *(each.last_had for each in reversed(self.mutable_slices))])
+        ends = nested([each.last for each in self.slices] + [f"r .{self.tally_field}"])
+        ends_fit = nested([each.fits for each in self.slices] + ["tt"])
+        lemma = block(f"""
+            exits : (r : {self.returned}) (zs : Ends) → {claimed}
+                → ent 𝓤 (⋆ 𝓤 H A ({entries})) (Post ({self.done.value(answer)}))
+            exits r zs gd e {fits} =
+                qed W ({entries}) ∵
+                suffices ! _ (ends-at 𝓤 H A here.ended stayed (here.clauses 𝓤 H A at-mem run′) W {self.entry} \
+                    ({self.done.value(answer)}) {answer}
+                {ends} {ends_fit}) $ says ! e $
+            """)
+        steps = block(f"""
+            -- the tokens
+            {self.join_token(3)} frame ! $
+            -- what is had of the parameters, and the result
+            feqI ! (List Val) (vptr b o ∷ []) (vptr b o ∷ []) refl $ fjoin3 ! $ nothing ! $ {move(1, 0)} fjoin ! $ \
+                {self.slices_had()}
+            """)
+        result = f"{self.done.owned(answer, 'gd')} {move(1, 0)} done !"
+        return lemma + "\n" + indent(steps + "\n" + result, "    ")
 
     # -- the walk
 
