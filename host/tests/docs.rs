@@ -6,7 +6,7 @@ use std::fs;
 use std::path::{Path, PathBuf};
 
 /// The documents that cite names.
-const DOCUMENTS: [&str; 11] = [
+const DOCUMENTS: [&str; 12] = [
     "README.md",
     "docs/AUDIT.md",
     "docs/BOUNDS.md",
@@ -14,6 +14,7 @@ const DOCUMENTS: [&str; 11] = [
     "docs/CHECKER.md",
     "docs/CLAIMS.md",
     "docs/DECISIONS.md",
+    "docs/DESK.md",
     "docs/REPORT.md",
     "docs/RULES.md",
     "docs/RUST.md",
@@ -32,7 +33,7 @@ const FILES: [(&str, &str); 7] = [
 ];
 
 /// Words in code type that name nothing of the repository: of the language, the tools, and programs' streams.
-const FOREIGN: [&str; 15] = [
+const FOREIGN: [&str; 17] = [
     "Cargo.toml",
     "Mutex",
     "String",
@@ -41,12 +42,14 @@ const FOREIGN: [&str; 15] = [
     "ensures",
     "false",
     "gcc-x86-64-linux-gnu",
+    "mv",
     "qemu-user",
     "requires",
     "rt",
     "rustc",
     "stdin",
     "stdout",
+    "touch",
     "unsafe",
 ];
 
@@ -235,7 +238,9 @@ fn short(kind: &str, name: &str) -> Vec<String> {
     let places = match (kind, name, name.split_once('/')) {
         (_, _, Some((owner, name))) => vec![format!("crates/{owner}/{folder}/{name}.{ending}")],
         ("code", "lib", _) => vec!["crates/rules/src/lib.rt".to_string()],
-        ("code", "store" | "job" | "report" | "reader" | "card_store", _) => vec![format!("crates/{name}/src/lib.rt")],
+        ("code", "store" | "job" | "report" | "reader" | "disk" | "card_store", _) => {
+            vec![format!("crates/{name}/src/lib.rt")]
+        }
         ("code", _, _) => vec![format!("crates/store/src/{name}.rt")],
         _ => ["rules", "model", "store", "reader"]
             .iter()

@@ -99,6 +99,8 @@ fn new(path: &Path, arguments: [&[u8]; 4]) -> Command {
     if fs::symlink_metadata(path).is_ok() {
         return Err(Said::refused("", named(path, " is there already. Nothing was done")));
     }
+    // Answers that were saved beside an earlier file of this name are not this one's.
+    let _ = fs::remove_file(with(path, ".last"));
     Ok(Said::saved("0\n", held.save(&file)?))
 }
 
@@ -143,12 +145,13 @@ fn report(paths: &[OsString]) -> Command {
 }
 
 fn last(path: &Path) -> Command {
+    let file = load(path)?;
     let beside = with(path, ".last");
     let last = fs::read(&beside).map_err(|error| match error.kind() {
         ErrorKind::NotFound => Said::refused("", around("desk: there are no saved answers for ", path, "")),
         _ => failed("cannot read", &beside, &error, "See to its folder and its rights"),
     })?;
-    let answers = desk::last_answers(&load(path)?, &last).ok_or_else(|| Said::refused("", stale(path)))?;
+    let answers = desk::last_answers(&file, &last).ok_or_else(|| Said::refused("", stale(path)))?;
     Ok(Said::done(answers))
 }
 
