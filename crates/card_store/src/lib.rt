@@ -3,10 +3,10 @@
 ghost use Rattle.std.specs.Prelude.{◌≡◌, []};
 ghost use Rattle.rules.specs.Code.{code_of};
 ghost use Rattle.rules.specs.Table.{address_of};
-ghost use Rattle.model.specs.Calls.{openCall, asked};
+ghost use Rattle.model.specs.Calls.{open_call, asked};
 ghost use Rattle.model.specs.Runs.{Act, outcome};
 ghost use Rattle.model.specs.Job.{padded};
-ghost use Rattle.model.specs.Report.{reportCall};
+ghost use Rattle.model.specs.Report.{report_call};
 ghost use Rattle.store.specs.Leaves.{Opens, Admits, Leaves};
 ghost use Rattle.job.specs.Runs.{Did};
 ghost use Rattle.report.specs.Reports.{Reports};
@@ -47,7 +47,7 @@ pub extern "C" fn reader_open(
     upper: u32,
     lower: u32,
 ) -> u32
-    ensures { Opens (openCall words.old (asked cards faults upper lower)) result words.new }
+    ensures { Opens (open_call words.old (asked cards faults upper lower)) result words.new }
 {
     store::open(words, cards, faults, upper, lower)
 }
@@ -140,7 +140,7 @@ pub extern "C" fn reader_report(
     scratch: &mut [u8],
     out: &mut [u8],
 ) -> Wrote
-    ensures { Reports (reportCall words.now lengths.now scratch.old out.old) result out.new scratch.new }
+    ensures { Reports (report_call words.now lengths.now scratch.old out.old) result out.new scratch.new }
 {
     report::report(words, lengths, scratch, out)
 }

@@ -9,46 +9,46 @@ use lib.Dec.{eqb}
 use lib.ListN.{get_or}
 use Rattle.model.specs.Lists.{between}
 use Rattle.model.specs.Shape.{Shape}
-use Rattle.model.specs.Layout.{toNext, cell_at, cardWord, faultWord}
+use Rattle.model.specs.Layout.{to_next, cell_at, card_word, fault_word}
 use Rattle.reads.specs.declared.header.Header.{Header}
-use Rattle.reads.specs.Cells.{shapeIn, Sized, width_of, cellWord, sameKey}
-use Rattle.checker.specs.Fits.{metFirst, freeFits}
-use Rattle.reads.proofs.Rows.{testFrom}
+use Rattle.reads.specs.Cells.{shape_in, Sized, width_of, cell_word, same_key}
+use Rattle.checker.specs.Fits.{met_first, free_fits}
+use Rattle.reads.proofs.Rows.{test_from}
 
 -- the search for a card's twin along a chain: what is left from here is what was left from the start
 module _ (sh : Shape) (w : List ℕ) (j i c n : ℕ) (h : n < c) where
   more : c - n ≡ suc (c - (n + 1))
   more = omega arith
 
-  pub met-here : j ≡ i → metFirst (c - n) sh w j i ≡ true
-  unfolding metFirst
-  met-here e = rw (more, eq-eqb j i e)
+  pub met_here : j ≡ i → met_first (c - n) sh w j i ≡ true
+  unfolding met_first
+  met_here e = rw (more, eq-eqb j i e)
 
-  pub met-out : (j ≡ i → ⊥) → between 1 sh.limit j ≡ false → metFirst (c - n) sh w j i ≡ false
-  unfolding metFirst
-  met-out d e = rw (more, ne_eqb j i d, e)
+  pub met_out : (j ≡ i → ⊥) → between 1 sh.limit j ≡ false → met_first (c - n) sh w j i ≡ false
+  unfolding met_first
+  met_out d e = rw (more, ne_eqb j i d, e)
 
-  pub met-twin : (j ≡ i → ⊥) → between 1 sh.limit j ≡ true → sameKey sh w j i ≡ true → metFirst (c - n) sh w j i ≡ false
-  unfolding metFirst
-  met-twin d e t = rw (more, ne_eqb j i d, e, t)
+  pub met_twin : (j ≡ i → ⊥) → between 1 sh.limit j ≡ true → same_key sh w j i ≡ true → met_first (c - n) sh w j i ≡ false
+  unfolding met_first
+  met_twin d e t = rw (more, ne_eqb j i d, e, t)
 
-  pub met-on : (j ≡ i → ⊥) → between 1 sh.limit j ≡ true → sameKey sh w j i ≡ false → metFirst (c - (n + 1)) sh w (cardWord sh w j toNext) i ≡ metFirst (c - n) sh w j i
-  unfolding metFirst
-  met-on d e t = rw (more, ne_eqb j i d, e, t)
+  pub met_on : (j ≡ i → ⊥) → between 1 sh.limit j ≡ true → same_key sh w j i ≡ false → met_first (c - (n + 1)) sh w (card_word sh w j to_next) i ≡ met_first (c - n) sh w j i
+  unfolding met_first
+  met_on d e t = rw (more, ne_eqb j i d, e, t)
 
-pub met_start : (sh : Shape) (w : List ℕ) (j i c : ℕ) → metFirst (c - 0) sh w j i ≡ metFirst c sh w j i
-met_start sh w j i c = ap (λ (n : ℕ). metFirst n sh w j i) (let z : c - 0 ≡ c = omega arith in z)
+pub met_start : (sh : Shape) (w : List ℕ) (j i c : ℕ) → met_first (c - 0) sh w j i ≡ met_first c sh w j i
+met_start sh w j i c = ap (λ (n : ℕ). met_first n sh w j i) (let z : c - 0 ≡ c = omega arith in z)
 
-pub met-end : (sh : Shape) (w : List ℕ) (j i c n : ℕ) → c ≤ n → metFirst (c - n) sh w j i ≡ false
-unfolding metFirst
-met-end sh w j i c n h = let z : c - n ≡ 0 = omega arith in rw z
+pub met_end : (sh : Shape) (w : List ℕ) (j i c n : ℕ) → c ≤ n → met_first (c - n) sh w j i ≡ false
+unfolding met_first
+met_end sh w j i c n h = let z : c - n ≡ 0 = omega arith in rw z
 
 -- a word behind `at`, where a cell begins; a cell is free where all of them but its next word are zero
-unfoldable pub zeroAt : List ℕ → ℕ → ℕ → Bool
-zeroAt w at k = eqb (get_or w (at + k) 0) 0
+unfoldable pub zero_at : List ℕ → ℕ → ℕ → Bool
+zero_at w at k = eqb (get_or w (at + k) 0) 0
 
-pub zero-start : {w : List ℕ} {h : Header} → Sized w h → (faults : Bool) (i : ℕ) {start width : ℕ} → start ≡ cond faults h.behind h.base → width ≡ width_of (shapeIn h) faults
-    → testFrom (zeroAt w (start + width * (i - 1))) 1 width ≡ freeFits (shapeIn h) w faults i
-unfolding testFrom zeroAt freeFits cellWord cardWord faultWord cell_at width_of
-zero-start s true i p z = rw (z, p, s.behind)
-zero-start s false i p z = rw (z, p, s.base)
+pub zero_start : {w : List ℕ} {h : Header} → Sized w h → (faults : Bool) (i : ℕ) {start width : ℕ} → start ≡ cond faults h.behind h.base → width ≡ width_of (shape_in h) faults
+    → test_from (zero_at w (start + width * (i - 1))) 1 width ≡ free_fits (shape_in h) w faults i
+unfolding test_from zero_at free_fits cell_word card_word fault_word cell_at width_of
+zero_start s true i p z = rw (z, p, s.behind)
+zero_start s false i p z = rw (z, p, s.base)

@@ -7,9 +7,9 @@ unfoldable pub bit_of : ℕ → ℕ → ℕ
 bit_of b j = b / 2 ^ j % 2
 
 -- whether number k is marked
-unfoldable pub markAt : List ℕ → ℕ → Bool
-markAt bytes k = eqb (bit_of (get_or bytes (k / 8) 0) (k % 8)) 1
+unfoldable pub mark_at : List ℕ → ℕ → Bool
+mark_at bytes k = eqb (bit_of (get_or bytes (k / 8) 0) (k % 8)) 1
 
 -- the bytes with number k marked too
-unfoldable pub markedAt : List ℕ → ℕ → List ℕ
-markedAt bytes k = set bytes (k / 8) (bit_or (get_or bytes (k / 8) 0) (2 ^ (k % 8)))
+unfoldable pub marked_at : List ℕ → ℕ → List ℕ
+marked_at bytes k = set bytes (k / 8) (bit_or (get_or bytes (k / 8) 0) (2 ^ (k % 8)))

@@ -1,8 +1,8 @@
 // What a cell has to be by itself.
 ghost use Rattle.std.specs.Prelude.{◌≡◌, cond, ◌≤◌, ◌<◌};
-ghost use Rattle.model.specs.Shape.{cardWidth};
-ghost use Rattle.reads.specs.Cells.{shapeIn, Sized, Read, limitOf, width_of, cellWord};
-ghost use Rattle.checker.specs.Fits.{metFirst, freeFits, faultFits, cardFits, Suits, cellFits};
+ghost use Rattle.model.specs.Shape.{card_width};
+ghost use Rattle.reads.specs.Cells.{shape_in, Sized, Read, limit_of, width_of, cell_word};
+ghost use Rattle.checker.specs.Fits.{met_first, free_fits, fault_fits, card_fits, Suits, cell_fits};
 
 use reads::header::Header;
 use reads::{cells, header, keys, layout, serial};
@@ -17,8 +17,8 @@ pub enum Chain {
 
 // The same of either part.
 pub fn cell_word(w: &[u32], h: Header, faults: bool, i: u32, k: usize) -> u32
-    requires { Sized w.now h × (1 ≤ i) × (i ≤ limitOf (shapeIn h) faults) × (k < width_of (shapeIn h) faults) }
-    ensures { result ≡ cellWord (shapeIn h) w.now faults i k }
+    requires { Sized w.now h × (1 ≤ i) × (i ≤ limit_of (shape_in h) faults) × (k < width_of (shape_in h) faults) }
+    ensures { result ≡ cell_word (shape_in h) w.now faults i k }
 {
     if faults {
         cells::fault_word(w, h, i, k)
@@ -35,16 +35,16 @@ fn start_of(h: Header, faults: bool) -> usize
 }
 
 fn width_of(h: Header, faults: bool) -> usize
-    requires { h.width ≡ cardWidth (shapeIn h) }
-    ensures { result ≡ width_of (shapeIn h) faults }
+    requires { h.width ≡ card_width (shape_in h) }
+    ensures { result ≡ width_of (shape_in h) faults }
 {
     if faults { layout::FAULT_WIDTH } else { h.width }
 }
 
 // A free cell is zero but for its next word.
 fn free_fits(w: &[u32], h: Header, faults: bool, i: u32) -> bool
-    requires { Sized w.now h × (1 ≤ i) × (i ≤ limitOf (shapeIn h) faults) }
-    ensures { result ≡ freeFits (shapeIn h) w.now faults i }
+    requires { Sized w.now h × (1 ≤ i) × (i ≤ limit_of (shape_in h) faults) }
+    ensures { result ≡ free_fits (shape_in h) w.now faults i }
 {
     let start = start_of(h, faults);
     let width = width_of(h, faults);
@@ -62,7 +62,7 @@ fn free_fits(w: &[u32], h: Header, faults: bool, i: u32) -> bool
 // A fault of a history has a valid day and code.
 fn fault_fits(w: &[u32], h: Header, i: u32) -> bool
     requires { Sized w.now h × (1 ≤ i) × (i ≤ h.faults) }
-    ensures { result ≡ faultFits (shapeIn h) w.now i }
+    ensures { result ≡ fault_fits (shape_in h) w.now i }
 {
     serial::valid_fault(
         cells::fault_word(w, h, i, layout::TO_DAY),
@@ -73,7 +73,7 @@ fn fault_fits(w: &[u32], h: Header, i: u32) -> bool
 // Whether card i is met from cell `first` on before any other card with its serial.
 fn met_first(w: &[u32], h: Header, first: u32, i: u32) -> bool
     requires { Sized w.now h × (1 ≤ i) × (i ≤ h.cards) }
-    ensures { result ≡ metFirst h.cards (shapeIn h) w.now first i }
+    ensures { result ≡ met_first h.cards (shape_in h) w.now first i }
 {
     let c = h.cards;
     let mut j = first;
@@ -97,7 +97,7 @@ fn met_first(w: &[u32], h: Header, first: u32, i: u32) -> bool
 // A card of bucket b has a valid serial with zero padding, its address is b, and no card before it on the chain has its serial.
 fn card_fits(w: &[u32], h: Header, b: u32, i: u32) -> bool
     requires { Read w.now h × (b < h.top) × (1 ≤ i) × (i ≤ h.cards) }
-    ensures { result ≡ cardFits (shapeIn h) w.now b i }
+    ensures { result ≡ card_fits (shape_in h) w.now b i }
 {
     let len = cells::card_word(w, h, i, layout::TO_LENGTH) as usize;
     let bytes = keys::bytes_at(w, h, i);
@@ -113,8 +113,8 @@ fn card_fits(w: &[u32], h: Header, b: u32, i: u32) -> bool
 
 // What cell i has to be, by the chain that it stands in.
 pub fn cell_fits(w: &[u32], h: Header, faults: bool, chain: Chain, i: u32) -> bool
-    requires { Read w.now h × Suits h faults chain × (1 ≤ i) × (i ≤ limitOf (shapeIn h) faults) }
-    ensures { result ≡ cellFits (shapeIn h) w.now faults chain i }
+    requires { Read w.now h × Suits h faults chain × (1 ≤ i) × (i ≤ limit_of (shape_in h) faults) }
+    ensures { result ≡ cell_fits (shape_in h) w.now faults chain i }
 {
     match chain {
         Chain::Free => free_fits(w, h, faults, i),

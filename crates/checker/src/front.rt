@@ -1,10 +1,10 @@
 // The words before the cells: header, directory, and bucket words past the last bucket.
 ghost use Rattle.std.specs.Prelude.{◌≡◌, true, ◌+◌, ◌≤◌, ◌<◌, length};
 ghost use Rattle.model.specs.Bounds.{farthest};
-ghost use Rattle.model.specs.Layout.{directoryAt, shapeOk, shape_of};
-ghost use Rattle.reads.specs.Cells.{shape_by, shapeIn, Sized};
-ghost use Rattle.reads.specs.Front.{limitsFit, endsFit, offsetsFit};
-ghost use Rattle.checker.specs.Checker.{entryFor, directoryFits, restFits, tableFits, frontFits};
+ghost use Rattle.model.specs.Layout.{directory_at, shape_ok, shape_of};
+ghost use Rattle.reads.specs.Cells.{shape_by, shape_in, Sized};
+ghost use Rattle.reads.specs.Front.{limits_fit, ends_fit, offsets_fit};
+ghost use Rattle.checker.specs.Checker.{entry_for, directory_fits, rest_fits, table_fits, front_fits};
 
 use reads::header::Header;
 use reads::layout::Shape;
@@ -12,7 +12,7 @@ use reads::{header, layout};
 
 // The shape and the length.
 fn limits_fit(w: &[u32]) -> bool
-    ensures { result ≡ limitsFit w.now }
+    ensures { result ≡ limits_fit w.now }
 {
     let n = w.len();
     if n < layout::HEADER {
@@ -27,8 +27,8 @@ fn limits_fit(w: &[u32]) -> bool
 
 // Words 12 to 15.
 fn ends_fit(w: &[u32], s: Shape) -> bool
-    requires { (directoryAt ≤ length w.now) × (shapeOk (shape_by s) ≡ true) }
-    ensures { result ≡ endsFit (shape_by s) w.now }
+    requires { (directory_at ≤ length w.now) × (shape_ok (shape_by s) ≡ true) }
+    ensures { result ≡ ends_fit (shape_by s) w.now }
 {
     if header::wide_word(w, layout::FAULTS_OFFSET_AT) != layout::faults_at(s) {
         return false;
@@ -44,8 +44,8 @@ fn ends_fit(w: &[u32], s: Shape) -> bool
 
 // Words 9 to 15.
 fn offsets_fit(w: &[u32]) -> bool
-    requires { (directoryAt ≤ length w.now) × (shapeOk (shape_of w.now) ≡ true) }
-    ensures { result ≡ offsetsFit w.now }
+    requires { (directory_at ≤ length w.now) × (shape_ok (shape_of w.now) ≡ true) }
+    ensures { result ≡ offsets_fit w.now }
 {
     let s = header::shape_of(w);
     if header::wide_word(w, layout::DIRECTORY_OFFSET_AT) != layout::DIRECTORY_AT {
@@ -63,7 +63,7 @@ fn offsets_fit(w: &[u32]) -> bool
 // The directory word of segment k with b buckets, where the segments begin at `segments`.
 fn entry_for(segments: u32, b: u32, k: u32) -> u32
     requires { (k < farthest) × (segments < farthest) }
-    ensures { result ≡ entryFor segments b k }
+    ensures { result ≡ entry_for segments b k }
 {
     if layout::SEGMENT_SIZE * k < b {
         segments + layout::SEGMENT_SIZE * k
@@ -75,7 +75,7 @@ fn entry_for(segments: u32, b: u32, k: u32) -> u32
 // The directory: each segment is in use where its first bucket is one of the b.
 fn directory_fits(w: &[u32], h: Header, b: u32) -> bool
     requires { Sized w.now h }
-    ensures { result ≡ directoryFits (shapeIn h) w.now b }
+    ensures { result ≡ directory_fits (shape_in h) w.now b }
 {
     let n = h.top / layout::SEGMENT_SIZE;
     let segments = h.segments as u32;
@@ -92,7 +92,7 @@ fn directory_fits(w: &[u32], h: Header, b: u32) -> bool
 // The words of buckets from b on are zero.
 fn rest_fits(w: &[u32], h: Header, b: u32) -> bool
     requires { Sized w.now h × (b ≤ h.top) }
-    ensures { result ≡ restFits (shapeIn h) w.now b }
+    ensures { result ≡ rest_fits (shape_in h) w.now b }
 {
     let top = h.top;
     let segments = h.segments;
@@ -109,7 +109,7 @@ fn rest_fits(w: &[u32], h: Header, b: u32) -> bool
 // The table's words: the load, the directory, and the bucket words past the last bucket.
 fn table_fits(w: &[u32], h: Header, b: u32) -> bool
     requires { Sized w.now h × (b ≤ h.top) }
-    ensures { result ≡ tableFits (shapeIn h) w.now b }
+    ensures { result ≡ table_fits (shape_in h) w.now b }
 {
     let n = header::word(w, layout::HELD_AT);
     if !rules::load_fits(h.top, h.upper, h.lower, n, b) {
@@ -123,7 +123,7 @@ fn table_fits(w: &[u32], h: Header, b: u32) -> bool
 
 // All words before the cells but the chains' first cells.
 pub fn front_fits(w: &[u32]) -> bool
-    ensures { result ≡ frontFits w.now }
+    ensures { result ≡ front_fits w.now }
 {
     if !limits_fit(w) {
         return false;

@@ -1,12 +1,12 @@
 // Marks of visited cells, one bit a cell, in scratch that the caller lends.
 ghost use Rattle.std.specs.Prelude.{◌≡◌, ◌*◌, ◌<◌, ◌≤◌, length};
 ghost use Rattle.model.specs.Calls.{cleaned};
-ghost use Rattle.checker.specs.Marks.{markAt, markedAt};
+ghost use Rattle.checker.specs.Marks.{mark_at, marked_at};
 
 // Whether the bit of number k is set: bit k % 8 of byte k / 8.
 pub fn is_marked(scratch: &[u8], k: usize) -> bool
     requires { k < 8 * length scratch.now }
-    ensures { result ≡ markAt scratch.now k }
+    ensures { result ≡ mark_at scratch.now k }
 {
     let mask: u8 = 1 << (k % 8);
     (scratch[k / 8] & mask) != 0
@@ -15,7 +15,7 @@ pub fn is_marked(scratch: &[u8], k: usize) -> bool
 // Sets the bit of number k, and leaves every other bit.
 pub fn mark(scratch: &mut [u8], k: usize)
     requires { k < 8 * length scratch.old }
-    ensures { scratch.new ≡ markedAt scratch.old k }
+    ensures { scratch.new ≡ marked_at scratch.old k }
 {
     let mask: u8 = 1 << (k % 8);
     let at = k / 8;

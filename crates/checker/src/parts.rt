@@ -1,11 +1,11 @@
 // The two parts of the checker: the cards with their free chain, the faults with theirs.
 ghost use Rattle.std.specs.Prelude.{◌≡◌, cond, ◌+◌, ◌≤◌, length, get_or};
-ghost use Rattle.model.specs.Layout.{directoryAt, freeAt, freeFaultsAt, shape_of};
+ghost use Rattle.model.specs.Layout.{directory_at, free_at, free_faults_at, shape_of};
 ghost use Rattle.model.specs.Shape.{need};
-ghost use Rattle.reads.specs.Cells.{shapeIn, Read};
-ghost use Rattle.checker.specs.Fits.{cellFits};
+ghost use Rattle.reads.specs.Cells.{shape_in, Read};
+ghost use Rattle.checker.specs.Fits.{cell_fits};
 ghost use Rattle.checker.specs.Walk.{walk_of, Did};
-ghost use Rattle.checker.specs.Checker.{Asks, nextIn, heldWord, part_of, DidPart, DidCheck};
+ghost use Rattle.checker.specs.Checker.{Asks, next_in, held_word, part_of, DidPart, DidCheck};
 
 use crate::fits::Chain;
 use crate::walks::Walked;
@@ -36,8 +36,8 @@ fn chain_count(h: Header, faults: bool) -> u32
 
 // The first free cell of a part, and the word that says how many of its cells are held.
 fn free_word(w: &[u32], faults: bool) -> u32
-    requires { directoryAt ≤ length w.now }
-    ensures { result ≡ get_or w.now (cond faults freeFaultsAt freeAt) 0 }
+    requires { directory_at ≤ length w.now }
+    ensures { result ≡ get_or w.now (cond faults free_faults_at free_at) 0 }
 {
     if faults {
         header::word(w, layout::FREE_FAULTS_AT)
@@ -47,8 +47,8 @@ fn free_word(w: &[u32], faults: bool) -> u32
 }
 
 fn held_word(w: &[u32], faults: bool) -> u32
-    requires { directoryAt ≤ length w.now }
-    ensures { result ≡ heldWord w.now faults }
+    requires { directory_at ≤ length w.now }
+    ensures { result ≡ held_word w.now faults }
 {
     if faults {
         header::word(w, layout::FAULTS_HELD_AT)
@@ -67,7 +67,7 @@ fn walk_free(
     limit: u32,
 ) -> Walked
     requires { Asks w.now scratch.old h faults base limit }
-    ensures { Did (walk_of (cellFits (shapeIn h) w.now faults Chain.Free) (nextIn (shapeIn h) w.now faults) base limit scratch.old (get_or w.now (cond faults freeFaultsAt freeAt) 0)) result.ok result.count result.last scratch.new }
+    ensures { Did (walk_of (cell_fits (shape_in h) w.now faults Chain.Free) (next_in (shape_in h) w.now faults) base limit scratch.old (get_or w.now (cond faults free_faults_at free_at) 0)) result.ok result.count result.last scratch.new }
 {
     let first = free_word(w, faults);
     walks::walk(w, scratch, h, faults, Chain::Free, base, limit, first)
@@ -75,8 +75,8 @@ fn walk_free(
 
 // All cells of a part stand in a chain, once, and as many as the header says are held.
 pub fn part_fits(w: &[u32], scratch: &mut [u8], h: Header, faults: bool) -> bool
-    requires { Read w.now h × (h.maxp + h.p ≤ h.top) × (need (shapeIn h) ≤ length scratch.old) }
-    ensures { DidPart (part_of (shapeIn h) w.now faults scratch.old) result scratch.new }
+    requires { Read w.now h × (h.maxp + h.p ≤ h.top) × (need (shape_in h) ≤ length scratch.old) }
+    ensures { DidPart (part_of (shape_in h) w.now faults scratch.old) result scratch.new }
 {
     let limit = limit_of(h, faults);
     let base = base_of(h, faults);

@@ -1,10 +1,10 @@
 // Walks of chains over marks: each cell is within its limit, stands in no chain walked before, and is what its chain asks.
 ghost use Rattle.std.specs.Prelude.{◌≡◌, ◌&&◌, map, ◌≤◌, ◌<◌};
 ghost use Rattle.model.specs.Lists.{from};
-ghost use Rattle.reads.specs.Cells.{shapeIn, Sized};
-ghost use Rattle.checker.specs.Fits.{Suits, cellFits};
-ghost use Rattle.checker.specs.Walk.{mayCome, walk_of, walkOn, walksFrom, Did, DidAll};
-ghost use Rattle.checker.specs.Checker.{Asks, nextIn, first_of, endFits, start_of, reachOf};
+ghost use Rattle.reads.specs.Cells.{shape_in, Sized};
+ghost use Rattle.checker.specs.Fits.{Suits, cell_fits};
+ghost use Rattle.checker.specs.Walk.{may_come, walk_of, walk_on, walks_from, Did, DidAll};
+ghost use Rattle.checker.specs.Checker.{Asks, next_in, first_of, end_fits, start_of, reach_of};
 
 use crate::fits::Chain;
 use crate::{fits, marks};
@@ -38,7 +38,7 @@ fn may_come(
     i: u32,
 ) -> bool
     requires { Asks w.now scratch.now h faults base limit × Suits h faults chain × (1 ≤ i) }
-    ensures { result ≡ mayCome (cellFits (shapeIn h) w.now faults chain) scratch.now base limit i }
+    ensures { result ≡ may_come (cell_fits (shape_in h) w.now faults chain) scratch.now base limit i }
 {
     if limit < i {
         return false;
@@ -61,7 +61,7 @@ pub fn walk(
     first: u32,
 ) -> Walked
     requires { Asks w.now scratch.old h faults base limit × Suits h faults chain }
-    ensures { Did (walk_of (cellFits (shapeIn h) w.now faults chain) (nextIn (shapeIn h) w.now faults) base limit scratch.old first) result.ok result.count result.last scratch.new }
+    ensures { Did (walk_of (cell_fits (shape_in h) w.now faults chain) (next_in (shape_in h) w.now faults) base limit scratch.old first) result.ok result.count result.last scratch.new }
 {
     let mut i = first;
     let mut n: u32 = 0;
@@ -88,8 +88,8 @@ pub fn walk(
 
 // The first cell of chain j: of bucket j, or of the history of card j + 1.
 fn first_of(w: &[u32], h: Header, faults: bool, j: u32) -> u32
-    requires { Sized w.now h × (j < reachOf (shapeIn h) faults) }
-    ensures { result ≡ first_of (shapeIn h) w.now faults j }
+    requires { Sized w.now h × (j < reach_of (shape_in h) faults) }
+    ensures { result ≡ first_of (shape_in h) w.now faults j }
 {
     if faults {
         cells::card_word(w, h, j + 1, layout::TO_FIRST)
@@ -108,8 +108,8 @@ fn walk_on(
     limit: u32,
     j: u32,
 ) -> Walked
-    requires { Asks w.now scratch.old h faults base limit × (j < reachOf (shapeIn h) faults) }
-    ensures { Did (walkOn (nextIn (shapeIn h) w.now faults) base limit scratch.old (start_of (shapeIn h) w.now faults j)) result.ok result.count result.last scratch.new }
+    requires { Asks w.now scratch.old h faults base limit × (j < reach_of (shape_in h) faults) }
+    ensures { Did (walk_on (next_in (shape_in h) w.now faults) base limit scratch.old (start_of (shape_in h) w.now faults j)) result.ok result.count result.last scratch.new }
 {
     let first = first_of(w, h, faults, j);
     if faults {
@@ -121,8 +121,8 @@ fn walk_on(
 
 // The count and the last fault of card j + 1's history are true; a bucket has no such words.
 fn end_fits(w: &[u32], h: Header, faults: bool, j: u32, count: u32, last: u32) -> bool
-    requires { Sized w.now h × (j < reachOf (shapeIn h) faults) }
-    ensures { result ≡ endFits (shapeIn h) w.now faults j count last }
+    requires { Sized w.now h × (j < reach_of (shape_in h) faults) }
+    ensures { result ≡ end_fits (shape_in h) w.now faults j count last }
 {
     if !faults {
         return true;
@@ -135,8 +135,8 @@ fn end_fits(w: &[u32], h: Header, faults: bool, j: u32, count: u32, last: u32) -
 
 // A walk of chain j came to its end, and that is where the words say.
 fn passes(w: &[u32], h: Header, faults: bool, j: u32, t: Walked) -> bool
-    requires { Sized w.now h × (j < reachOf (shapeIn h) faults) }
-    ensures { result ≡ (t.ok && endFits (shapeIn h) w.now faults j t.count t.last) }
+    requires { Sized w.now h × (j < reach_of (shape_in h) faults) }
+    ensures { result ≡ (t.ok && end_fits (shape_in h) w.now faults j t.count t.last) }
 {
     if !t.ok {
         return false;
@@ -154,8 +154,8 @@ pub fn walk_all(
     limit: u32,
     n: u32,
 ) -> Held
-    requires { Asks w.now scratch.old h faults base limit × (n ≤ reachOf (shapeIn h) faults) }
-    ensures { DidAll (walksFrom (nextIn (shapeIn h) w.now faults) base limit (map (start_of (shapeIn h) w.now faults) (from 0 n)) scratch.old 0) result.ok result.total scratch.new }
+    requires { Asks w.now scratch.old h faults base limit × (n ≤ reach_of (shape_in h) faults) }
+    ensures { DidAll (walks_from (next_in (shape_in h) w.now faults) base limit (map (start_of (shape_in h) w.now faults) (from 0 n)) scratch.old 0) result.ok result.total scratch.new }
 {
     let mut j: u32 = 0;
     let mut total: u32 = 0;

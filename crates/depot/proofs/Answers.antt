@@ -1,5 +1,5 @@
 -- What the tests of a read's answer say of it: below 0 it is a failure (`below_fails`), else it counts (`counts`), and where it is not 0 it brings so many
--- bytes (`others-bring`). What it brings fits the room that was lent (`moved-brings`).
+-- bytes (`others_bring`). What it brings fits the room that was lent (`moved_brings`).
 use mathlib.Core.Path.{◌≡◌, refl, subst}
 use mathlib.Core.Bool.{true, false}
 use Prim.Native.Nat.{ℕ, zero, suc}
@@ -20,12 +20,12 @@ pub counts : (z : ℤ) → lt_z z (pos 0) ≡ false → T (non_neg z)
 counts (pos k) e = tt
 counts (negsuc k) e = subst T e tt
 
-pub others-bring : (z : ℤ) → lt_z z (pos 0) ≡ false → (z ≡ pos 0 → ⊥) → More (nat_abs z) ≡ step_of z
-others-bring (pos zero) e n = absurd (n refl)
-others-bring (pos (suc k)) e n = refl
-others-bring (negsuc k) e n = absurd (counts (negsuc k) e)
+pub others_bring : (z : ℤ) → lt_z z (pos 0) ≡ false → (z ≡ pos 0 → ⊥) → More (nat_abs z) ≡ step_of z
+others_bring (pos zero) e n = absurd (n refl)
+others_bring (pos (suc k)) e n = refl
+others_bring (negsuc k) e n = absurd (counts (negsuc k) e)
 
-pub moved-brings : (room : ℕ) (z : ℤ) → Moved room z → Brings room (step_of z)
-moved-brings room (pos zero) h = tt
-moved-brings room (pos (suc k)) h = (omega arith, h)
-moved-brings room (negsuc k) h = tt
+pub moved_brings : (room : ℕ) (z : ℤ) → Moved room z → Brings room (step_of z)
+moved_brings room (pos zero) h = tt
+moved_brings room (pos (suc k)) h = (omega arith, h)
+moved_brings room (negsuc k) h = tt

@@ -1,6 +1,6 @@
 // desk check FILE, desk report FILE.., desk last FILE: files are only read.
 ghost use Rattle.std.specs.Prelude.{◌≡◌, ◌≤◌, length};
-ghost use Rattle.disk.specs.Desk.{mostBytes};
+ghost use Rattle.disk.specs.Desk.{most_bytes};
 
 use crate::{files, tell};
 use disk::{lasts, looks, runs};
@@ -67,7 +67,7 @@ pub fn run_last(path: &[u8], name: &[u8]) {
 
 // One more file of a report, behind the others: its bytes are a sound store's, or it is said that they are not.
 fn add_file(i: usize, room: &mut [u8]) -> files::Got
-    ensures { (result.len ≤ length room.new) × (result.len ≤ mostBytes) }
+    ensures { (result.len ≤ length room.new) × (result.len ≤ most_bytes) }
 {
     let mut path = io::buffer();
     let n = os::arg(i, &mut path);

@@ -19,15 +19,15 @@ words_of (a ∷ b ∷ c ∷ d ∷ bs) = word_of a b c d ∷ words_of bs
 unfoldable pub four : ℕ → List ℕ
 four w = w % 256 ∷ w / 256 % 256 ∷ w / 256 / 256 % 256 ∷ w / 256 / 256 / 256 % 256 ∷ []
 
-unfoldable pub fileOf : List ℕ → List ℕ
-fileOf [] = []
-fileOf (w ∷ ws) = four w ++ fileOf ws
+unfoldable pub file_of : List ℕ → List ℕ
+file_of [] = []
+file_of (w ∷ ws) = four w ++ file_of ws
 
 -- words read from bytes, and written as bytes: each the other's way back
 pub record ReadAs (bytes words : List ℕ) : Type 0 where
   pub are : words ≡ words_of bytes
-  pub back : fileOf words ≡ bytes
+  pub back : file_of words ≡ bytes
 
 pub record WrittenAs (words bytes : List ℕ) : Type 0 where
-  pub are : bytes ≡ fileOf words
+  pub are : bytes ≡ file_of words
   pub back : words_of bytes ≡ words

@@ -2,12 +2,12 @@
 -- What is known of each serial is read off the lines of the text and the answer lines that were written; nothing inside the store is looked at.
 use Rattle.std.specs.Prelude.{ℕ, ◌-◌, ◌≡◌, Bool, List, [], ◌∷◌, ◌++◌, length, take}
 use Rattle.model.specs.Plain.{Book}
-use Rattle.model.specs.Runs.{Call, Event, Tell, bookAfter}
+use Rattle.model.specs.Runs.{Call, Event, Tell, book_after}
 use Rattle.model.specs.Text.{lines_of}
 use Rattle.model.specs.Deeds.{calls_of}
-use Rattle.model.specs.Heard.{seenIn, toldIn}
+use Rattle.model.specs.Heard.{seen_in, told_in}
 use Rattle.reader.specs.Depot.{closing}
-use Rattle.disk.specs.Desk.{deskJob, Serves}
+use Rattle.disk.specs.Desk.{desk_job, Serves}
 
 -- a job: its text, its number, all that was written for it, and the bytes of the file that it left
 pub record Day : Type 0 where
@@ -22,7 +22,7 @@ pub record Served (file : List ℕ) (d : Day) : Type 0 where
   pub len : ℕ
   pub save : Bool
   pub out : List ℕ
-  pub serves : Serves (deskJob file d.text) before d.number len save d.file out
+  pub serves : Serves (desk_job file d.text) before d.number len save d.file out
   pub written_is : d.written ≡ take len out
 
 -- jobs one after another, each on the bytes that the one before left
@@ -31,34 +31,34 @@ AllServed file [] = Unit {0}
 AllServed file (d ∷ ds) = Served file d × AllServed d.file ds
 
 -- the bytes at the end
-abbrev pub lastFile : List ℕ → List Day → List ℕ
-lastFile file [] = file
-lastFile file (d ∷ ds) = lastFile d.file ds
+abbrev pub last_file : List ℕ → List Day → List ℕ
+last_file file [] = file
+last_file file (d ∷ ds) = last_file d.file ds
 
 -- the answer lines: what is written before the closing line
-abbrev pub answerLines : Day → List (List ℕ)
-answerLines d = lines_of (take (length d.written - length (closing d.number)) d.written)
+abbrev pub answer_lines : Day → List (List ℕ)
+answer_lines d = lines_of (take (length d.written - length (closing d.number)) d.written)
 
 -- what is known outside: each line with its answer line; lines behind the last answer were not answered
-abbrev pub seenOn : Day → List Event
-seenOn d = seenIn (lines_of d.text) (answerLines d)
+abbrev pub seen_on : Day → List Event
+seen_on d = seen_in (lines_of d.text) (answer_lines d)
 
-abbrev pub seenAll : List Day → List Event
-seenAll [] = []
-seenAll (d ∷ ds) = seenOn d ++ seenAll ds
+abbrev pub seen_all : List Day → List Event
+seen_all [] = []
+seen_all (d ∷ ds) = seen_on d ++ seen_all ds
 
 -- what demand 2 compares
-abbrev pub toldOn : Day → List Tell
-toldOn d = toldIn (lines_of d.text) (answerLines d)
+abbrev pub told_on : Day → List Tell
+told_on d = told_in (lines_of d.text) (answer_lines d)
 
-abbrev pub toldAll : List Day → List Tell
-toldAll [] = []
-toldAll (d ∷ ds) = toldOn d ++ toldAll ds
+abbrev pub told_all : List Day → List Tell
+told_all [] = []
+told_all (d ∷ ds) = told_on d ++ told_all ds
 
 -- the same asked of a plain list: the calls of the lines that were answered
-abbrev pub callsOn : Book → Day → List Call
-callsOn b d = calls_of b.shape (take (length (answerLines d)) (lines_of d.text))
+abbrev pub calls_on : Book → Day → List Call
+calls_on b d = calls_of b.shape (take (length (answer_lines d)) (lines_of d.text))
 
-abbrev pub callsAll : Book → List Day → List Call
-callsAll b [] = []
-callsAll b (d ∷ ds) = callsOn b d ++ callsAll (bookAfter b (callsOn b d)) ds
+abbrev pub calls_all : Book → List Day → List Call
+calls_all b [] = []
+calls_all b (d ∷ ds) = calls_on b d ++ calls_all (book_after b (calls_on b d)) ds

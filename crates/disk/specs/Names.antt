@@ -7,12 +7,12 @@ abbrev pub slash : ℕ
 slash = 47
 
 -- how many bytes lie up to and with the last slash: r so far, at place i
-unfoldable pub slashEnd : ℕ → ℕ → List ℕ → ℕ
-slashEnd r i [] = r
-slashEnd r i (b ∷ bs) = slashEnd (cond (eqb b slash) (suc i) r) (suc i) bs
+unfoldable pub slash_end : ℕ → ℕ → List ℕ → ℕ
+slash_end r i [] = r
+slash_end r i (b ∷ bs) = slash_end (cond (eqb b slash) (suc i) r) (suc i) bs
 
 pub record Folder (path : List ℕ) (r : ℕ) : Type 0 where
-  pub is : r ≡ slashEnd 0 0 path
+  pub is : r ≡ slash_end 0 0 path
   pub within : r ≤ length path
   pub cut : r ≡ length (take r path)
 

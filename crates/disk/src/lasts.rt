@@ -1,6 +1,6 @@
 // Saved answers: what stands before them, and whether they belong to a file.
 ghost use Rattle.std.specs.Prelude.{◌≡◌, true, ◌+◌, ◌%◌, ◌≤◌, length};
-ghost use Rattle.disk.specs.Last.{head_of, headSize, standsAt, belongs as Last·belongs};
+ghost use Rattle.disk.specs.Last.{head_of, head_size, stands_at, belongs as Last·belongs};
 
 use crate::texts;
 
@@ -33,7 +33,7 @@ pub fn head(file: &[u8]) -> [u8; HEAD]
 // Whether a part stands in a text at a place.
 fn stands_at(text: &[u8], at: usize, part: &[u8]) -> bool
     requires { at ≤ length text.now }
-    ensures { result ≡ standsAt text.now at part.now }
+    ensures { result ≡ stands_at text.now at part.now }
 {
     if text.len() - at < part.len() {
         return false;
@@ -62,7 +62,7 @@ pub fn belongs(file: &[u8], last: &[u8]) -> bool
 // Where the answers begin.
 pub fn answers_at(file: &[u8], last: &[u8]) -> usize
     requires { Last·belongs file.now last.now ≡ true }
-    ensures { (result ≡ headSize + length file.now) × (result ≤ length last.now) }
+    ensures { (result ≡ head_size + length file.now) × (result ≤ length last.now) }
 {
     HEAD + file.len()
 }

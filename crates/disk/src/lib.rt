@@ -1,8 +1,8 @@
 // What `desk` makes of the bytes of a file.
 ghost use Rattle.std.specs.Prelude.{◌≡◌, ◌+◌, ◌*◌, length};
-ghost use Rattle.reader.specs.Depot.{wholeSize, jobOn};
+ghost use Rattle.reader.specs.Depot.{whole_size, job_on};
 ghost use Rattle.disk.specs.Bytes.{words_of};
-ghost use Rattle.disk.specs.Desk.{mostWords, mostBytes, sized as Desk·sized, after, deskJob, Serves};
+ghost use Rattle.disk.specs.Desk.{most_words, most_bytes, sized as Desk·sized, after, desk_job, Serves};
 
 pub mod lasts; // lasts.rt: saved answers
 pub mod looks; // looks.rt: what a file holds
@@ -39,21 +39,21 @@ pub fn sized(n: usize) -> bool
 
 // Room for the words of the longest store. The `ensures` gives only the length.
 fn room() -> [u32; WORDS]
-    ensures { mostWords ≡ length result }
+    ensures { most_words ≡ length result }
 {
     [0u32; WORDS]
 }
 
 // Room for all that is written for a job. The `ensures` gives only the length.
 pub fn output() -> [u8; reader::WHOLE]
-    ensures { wholeSize ≡ length result }
+    ensures { whole_size ≡ length result }
 {
     [0u8; reader::WHOLE]
 }
 
 // Room for a file, and one byte more, which tells a file that is too long.
 pub fn file_room() -> [u8; FILE]
-    ensures { mostBytes + 1 ≡ length result }
+    ensures { most_bytes + 1 ≡ length result }
 {
     [0u8; FILE]
 }
@@ -68,8 +68,8 @@ pub struct Outcome {
 
 // A job on the bytes of a file, with room for its words.
 fn serve_in(file: &mut [u8], words: &mut [u32], text: &[u8], out: &mut [u8]) -> Outcome
-    requires { (length file.old ≡ 4 * length words.old) × (length out.old ≡ wholeSize) }
-    ensures { Serves (after (words_of file.old) (jobOn (words_of file.old) text.now)) out.old result.number result.len result.save file.new out.new }
+    requires { (length file.old ≡ 4 * length words.old) × (length out.old ≡ whole_size) }
+    ensures { Serves (after (words_of file.old) (job_on (words_of file.old) text.now)) out.old result.number result.len result.save file.new out.new }
 {
     words::read(file, words);
     let e = reader::answer_on(words, text, out);
@@ -84,8 +84,8 @@ fn serve_in(file: &mut [u8], words: &mut [u32], text: &[u8], out: &mut [u8]) -> 
 
 // A job on a file: the file's bytes afterwards, all that is written, and whether the file has changed.
 pub fn serve(file: &mut [u8], text: &[u8], out: &mut [u8]) -> Outcome
-    requires { length out.old ≡ wholeSize }
-    ensures { Serves (deskJob file.old text.now) out.old result.number result.len result.save file.new out.new }
+    requires { length out.old ≡ whole_size }
+    ensures { Serves (desk_job file.old text.now) out.old result.number result.len result.save file.new out.new }
 {
     if !sized(file.len()) {
         let mut none = [0u32; 1];

@@ -4,7 +4,7 @@ ghost use Rattle.model.specs.Layout.{sound};
 ghost use Rattle.reader.specs.Depot.{Writes};
 ghost use Rattle.text.specs.Decimals.{Puts};
 ghost use Rattle.disk.specs.Bytes.{words_of};
-ghost use Rattle.disk.specs.Check.{unseen as Check·unseen, told, seenBy, deskCheck, soundText, checkText, checkSize, seenIn, Looks};
+ghost use Rattle.disk.specs.Check.{unseen as Check·unseen, told, seen_by, desk_check, sound_text, check_text, check_size, seen_in, Looks};
 
 use crate::{room, sized, texts, words};
 use store::numbers;
@@ -26,7 +26,7 @@ pub struct Seen {
 }
 
 fn unseen() -> Seen
-    ensures { seenIn result ≡ Check·unseen }
+    ensures { seen_in result ≡ Check·unseen }
 {
     Seen {
         number: numbers::NOT_SOUND,
@@ -43,7 +43,7 @@ fn unseen() -> Seen
 // What the words of a store known to be sound tell.
 fn see_sound(w: &[u32]) -> Seen
     requires { sound w.now ≡ true }
-    ensures { seenIn result ≡ told w.now }
+    ensures { seen_in result ≡ told w.now }
 {
     let h = store::header_of(w);
     Seen {
@@ -61,7 +61,7 @@ fn see_sound(w: &[u32]) -> Seen
 // What the bytes of a file tell, with room for its words.
 fn see_in(file: &[u8], words: &mut [u32]) -> Seen
     requires { length file.now ≡ 4 * length words.old }
-    ensures { seenIn result ≡ seenBy (words_of file.now) }
+    ensures { seen_in result ≡ seen_by (words_of file.now) }
 {
     words::read(file, words);
     let mut scratch = [0u8; store::NEED];
@@ -73,7 +73,7 @@ fn see_in(file: &[u8], words: &mut [u32]) -> Seen
 
 // What a file tells.
 pub fn see(file: &[u8]) -> Seen
-    ensures { seenIn result ≡ deskCheck file.now }
+    ensures { seen_in result ≡ desk_check file.now }
 {
     if !sized(file.len()) {
         return unseen();
@@ -85,8 +85,8 @@ pub fn see(file: &[u8]) -> Seen
 
 // The five lines of a sound store.
 fn put_sound(out: &mut [u8], s: Seen) -> usize
-    requires { checkSize ≤ length out.old }
-    ensures { Puts out.old 0 (soundText (seenIn s)) result out.new }
+    requires { check_size ≤ length out.old }
+    ensures { Puts out.old 0 (sound_text (seen_in s)) result out.new }
 {
     let a = texts::put_text(out, 0, b"sound\n");
     let b = texts::put_pair(out, a, b"cards ", s.held, b" of ", s.cards);
@@ -98,8 +98,8 @@ fn put_sound(out: &mut [u8], s: Seen) -> usize
 
 // What is told, as text.
 fn put_seen(out: &mut [u8], s: Seen) -> usize
-    requires { checkSize ≤ length out.old }
-    ensures { Writes (checkText (seenIn s)) out.old result out.new }
+    requires { check_size ≤ length out.old }
+    ensures { Writes (check_text (seen_in s)) out.old result out.new }
 {
     if s.number != 0 {
         return texts::put_text(out, 0, b"not sound\n");
@@ -116,8 +116,8 @@ pub struct Looked {
 
 // What a file holds, as text.
 pub fn look(file: &[u8], out: &mut [u8]) -> Looked
-    requires { checkSize ≤ length out.old }
-    ensures { Looks (deskCheck file.now) out.old result.number result.len out.new }
+    requires { check_size ≤ length out.old }
+    ensures { Looks (desk_check file.now) out.old result.number result.len out.new }
 {
     let s = see(file);
     let number = s.number;

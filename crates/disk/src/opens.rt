@@ -1,8 +1,8 @@
 // A fresh store as a file, from the arguments' bytes.
 ghost use Rattle.std.specs.Prelude.{◌≡◌, ◌≤◌, length};
-ghost use Rattle.model.specs.Layout.{lengthFor};
-ghost use Rattle.model.specs.Calls.{shapeFor, asked};
-ghost use Rattle.disk.specs.Desk.{mostBytes, argument as Desk·argument, newSize, freshFor, deskNew, Files, Makes};
+ghost use Rattle.model.specs.Layout.{length_for};
+ghost use Rattle.model.specs.Calls.{shape_for, asked};
+ghost use Rattle.disk.specs.Desk.{most_bytes, argument as Desk·argument, new_size, fresh_for, desk_new, Files, Makes};
 
 use crate::{WORDS, room, texts, words};
 use store::numbers::BAD_LIMITS;
@@ -20,7 +20,7 @@ fn argument(field: &[u8]) -> u32
 
 // The words of a store with these limits; the bounds make no difference.
 fn length_for(cards: u32, faults: u32, upper: u32, lower: u32) -> usize
-    ensures { result ≡ lengthFor (shapeFor (asked cards faults upper lower)) }
+    ensures { result ≡ length_for (shape_for (asked cards faults upper lower)) }
 {
     store::CARDS_AT + store::CARD_WIDTH * (cards as usize) + store::FAULT_WIDTH * (faults as usize)
 }
@@ -40,8 +40,8 @@ fn not_made(number: u32) -> Opened
 
 // A fresh store, as bytes at the front. Limits that ask for more words than the longest store has are out of range.
 fn fresh_for(cards: u32, faults: u32, upper: u32, lower: u32, file: &mut [u8]) -> Opened
-    requires { mostBytes ≤ length file.old }
-    ensures { Files (freshFor (asked cards faults upper lower)) file.old result.number result.len file.new }
+    requires { most_bytes ≤ length file.old }
+    ensures { Files (fresh_for (asked cards faults upper lower)) file.old result.number result.len file.new }
 {
     let n = length_for(cards, faults, upper, lower);
     if WORDS < n {
@@ -74,8 +74,8 @@ pub fn fresh(
     file: &mut [u8],
     out: &mut [u8],
 ) -> Made
-    requires { (mostBytes ≤ length file.old) × (newSize ≤ length out.old) }
-    ensures { Makes (deskNew cards.now faults.now upper.now lower.now) file.old out.old result.number result.len result.said file.new out.new }
+    requires { (most_bytes ≤ length file.old) × (new_size ≤ length out.old) }
+    ensures { Makes (desk_new cards.now faults.now upper.now lower.now) file.old out.old result.number result.len result.said file.new out.new }
 {
     let c = argument(cards);
     let f = argument(faults);

@@ -1,10 +1,10 @@
 // The report over the files of several stores.
 ghost use Rattle.std.specs.Prelude.{◌≡◌, map, ◌*◌, ◌≤◌, length};
-ghost use Rattle.model.specs.Report.{mostStores};
+ghost use Rattle.model.specs.Report.{most_stores};
 ghost use Rattle.store.specs.Leaves.{Tells};
 ghost use Rattle.disk.specs.Bytes.{words_of};
-ghost use Rattle.disk.specs.Desk.{mostWords};
-ghost use Rattle.disk.specs.Report.{words_in, sizesOk, reportOn, deskReport, Reports};
+ghost use Rattle.disk.specs.Desk.{most_words};
+ghost use Rattle.disk.specs.Report.{words_in, sizes_ok, report_on, desk_report, Reports};
 
 use crate::{WORDS, sized, words};
 use store::{Wrote, numbers};
@@ -21,7 +21,7 @@ const TEXT: usize = 55 * 9999 + 44;
 
 // Room for the words of all files. The `ensures` gives only the length.
 fn room_for_all() -> [u32; ALL_WORDS]
-    ensures { mostStores * mostWords ≡ length result }
+    ensures { most_stores * most_words ≡ length result }
 {
     [0u32; ALL_WORDS]
 }
@@ -42,8 +42,8 @@ pub fn output() -> [u8; TEXT]
 
 // Whether each size is one that a store's file can have, and they add up.
 fn sizes_ok(whole: usize, sizes: &[u32]) -> bool
-    requires { length sizes.now ≤ mostStores }
-    ensures { result ≡ sizesOk whole sizes.now }
+    requires { length sizes.now ≤ most_stores }
+    ensures { result ≡ sizes_ok whole sizes.now }
 {
     let mut i: usize = 0;
     let mut sum: usize = 0;
@@ -72,7 +72,7 @@ fn lengths_of(sizes: &[u32], lengths: &mut [u32])
 
 // The report over words that are read, with their lengths.
 fn report_on(words: &[u32], lengths: &[u32], out: &mut [u8]) -> Wrote
-    ensures { Reports (reportOn words.now lengths.now out.old) result out.new }
+    ensures { Reports (report_on words.now lengths.now out.old) result out.new }
 {
     let mut scratch = [0u8; store::NEED];
     report::report(words, lengths, &mut scratch, out)
@@ -80,8 +80,8 @@ fn report_on(words: &[u32], lengths: &[u32], out: &mut [u8]) -> Wrote
 
 // The report over files, with room for their words.
 fn report_in(files: &[u8], words: &mut [u32], sizes: &[u32], out: &mut [u8]) -> Wrote
-    requires { (length files.now ≡ 4 * length words.old) × (length sizes.now ≤ mostStores) }
-    ensures { Reports (reportOn (words_of files.now) (map words_in sizes.now) out.old) result out.new }
+    requires { (length files.now ≡ 4 * length words.old) × (length sizes.now ≤ most_stores) }
+    ensures { Reports (report_on (words_of files.now) (map words_in sizes.now) out.old) result out.new }
 {
     words::read(files, words);
     let mut lengths = [0u32; FILES];
@@ -99,7 +99,7 @@ fn refuse(number: u32) -> Wrote
 // The report over files that stand one behind another, each as long as the list says: 14 for no file or more than eight, 3 for sizes that are
 // no stores' or do not add up and for a store that is not sound, 10 for the output; else the text is written.
 pub fn report_files(files: &[u8], sizes: &[u32], out: &mut [u8]) -> Wrote
-    ensures { Reports (deskReport files.now sizes.now out.old) result out.new }
+    ensures { Reports (desk_report files.now sizes.now out.old) result out.new }
 {
     if sizes.len() < 1 {
         return refuse(numbers::BAD_STORES);

@@ -15,12 +15,12 @@ abbrev pub place : Kind → ℕ
 place k = tag_of the_type k
 
 -- the kinds of which a done line lists its pairs, and those that list none
-pub tells-pairs : (k : Kind) → OneOf (2 ∷ 4 ∷ []) (place k) → (k ≡ Withdraw) ⊎ (k ≡ Show)
-tells-pairs Bad e = absurd (miss (2 ∷ 4 ∷ []) 0 tt e)
-tells-pairs Enter e = absurd (miss (2 ∷ 4 ∷ []) 1 tt e)
-tells-pairs Withdraw e = inl refl
-tells-pairs File e = absurd (miss (2 ∷ 4 ∷ []) 3 tt e)
-tells-pairs Show e = inr refl
+pub tells_pairs : (k : Kind) → OneOf (2 ∷ 4 ∷ []) (place k) → (k ≡ Withdraw) ⊎ (k ≡ Show)
+tells_pairs Bad e = absurd (miss (2 ∷ 4 ∷ []) 0 tt e)
+tells_pairs Enter e = absurd (miss (2 ∷ 4 ∷ []) 1 tt e)
+tells_pairs Withdraw e = inl refl
+tells_pairs File e = absurd (miss (2 ∷ 4 ∷ []) 3 tt e)
+tells_pairs Show e = inr refl
 
 abbrev pub Silent : Kind → Type 0
 Silent Bad = Unit {0}
@@ -52,26 +52,26 @@ idle File e = absurd (miss (0 ∷ 4 ∷ []) 3 tt e)
 idle Show e = tt
 
 -- the kinds that do not count
-pub not-entering : (k : Kind) → OneOf (0 ∷ 2 ∷ 3 ∷ 4 ∷ []) (place k) → false ≡ entering k
+pub not_entering : (k : Kind) → OneOf (0 ∷ 2 ∷ 3 ∷ 4 ∷ []) (place k) → false ≡ entering k
 unfolding entering
-not-entering Bad e = refl
-not-entering Enter e = absurd (miss (0 ∷ 2 ∷ 3 ∷ 4 ∷ []) 1 tt e)
-not-entering Withdraw e = refl
-not-entering File e = refl
-not-entering Show e = refl
+not_entering Bad e = refl
+not_entering Enter e = absurd (miss (0 ∷ 2 ∷ 3 ∷ 4 ∷ []) 1 tt e)
+not_entering Withdraw e = refl
+not_entering File e = refl
+not_entering Show e = refl
 
-pub not-withdrawing : (k : Kind) → OneOf (0 ∷ 1 ∷ 3 ∷ 4 ∷ []) (place k) → false ≡ withdrawing k
+pub not_withdrawing : (k : Kind) → OneOf (0 ∷ 1 ∷ 3 ∷ 4 ∷ []) (place k) → false ≡ withdrawing k
 unfolding withdrawing
-not-withdrawing Bad e = refl
-not-withdrawing Enter e = refl
-not-withdrawing Withdraw e = absurd (miss (0 ∷ 1 ∷ 3 ∷ 4 ∷ []) 2 tt e)
-not-withdrawing File e = refl
-not-withdrawing Show e = refl
+not_withdrawing Bad e = refl
+not_withdrawing Enter e = refl
+not_withdrawing Withdraw e = absurd (miss (0 ∷ 1 ∷ 3 ∷ 4 ∷ []) 2 tt e)
+not_withdrawing File e = refl
+not_withdrawing Show e = refl
 
-pub not-filing : (k : Kind) → OneOf (0 ∷ 1 ∷ 2 ∷ 4 ∷ []) (place k) → false ≡ filing k
+pub not_filing : (k : Kind) → OneOf (0 ∷ 1 ∷ 2 ∷ 4 ∷ []) (place k) → false ≡ filing k
 unfolding filing
-not-filing Bad e = refl
-not-filing Enter e = refl
-not-filing Withdraw e = refl
-not-filing File e = absurd (miss (0 ∷ 1 ∷ 2 ∷ 4 ∷ []) 3 tt e)
-not-filing Show e = refl
+not_filing Bad e = refl
+not_filing Enter e = refl
+not_filing Withdraw e = refl
+not_filing File e = absurd (miss (0 ∷ 1 ∷ 2 ∷ 4 ∷ []) 3 tt e)
+not_filing Show e = refl

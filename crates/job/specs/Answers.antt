@@ -1,7 +1,7 @@
 -- The text of an answer from its numbers.
 use Rattle.std.specs.Prelude.{◌≡◌, List, [], ◌∷◌, ◌++◌, ℕ, ◌+◌, ◌*◌, ◌≤◌, length}
 use Rattle.model.specs.Text.{lf, space, decimal}
-use Rattle.model.specs.Job.{colon, pairText}
+use Rattle.model.specs.Job.{colon, pair_text}
 use Rattle.text.specs.Decimals.{marked}
 
 -- a fault: ` day:code`
@@ -14,16 +14,16 @@ pub record PairLong (day code r : ℕ) : Type 0 where
   pub most : r ≤ 22
 
 pub record PairsLong (count : ℕ) (room : List ℕ) (r : ℕ) : Type 0 where
-  pub is : r ≡ length (pairText count room)
+  pub is : r ≡ length (pair_text count room)
   pub most : r ≤ 22 * count
 
 -- number, comparisons, scanned and faults, one space between
-unfoldable pub numbersOf : ℕ → ℕ → ℕ → ℕ → List ℕ
-numbersOf number comparisons scanned faults = decimal number ++ (marked space comparisons ++ (marked space scanned ++ marked space faults))
+unfoldable pub numbers_of : ℕ → ℕ → ℕ → ℕ → List ℕ
+numbers_of number comparisons scanned faults = decimal number ++ (marked space comparisons ++ (marked space scanned ++ marked space faults))
 
 -- an answer line: the four numbers, the pairs listed, LF
 unfoldable pub answer_of : ℕ → ℕ → ℕ → ℕ → ℕ → List ℕ → List ℕ
-answer_of number comparisons scanned faults count room = numbersOf number comparisons scanned faults ++ (pairText count room ++ (lf ∷ []))
+answer_of number comparisons scanned faults count room = numbers_of number comparisons scanned faults ++ (pair_text count room ++ (lf ∷ []))
 
 -- how long an answer line with its LF is
 pub record AnswerLong (answer : List ℕ) (count r : ℕ) : Type 0 where

@@ -40,8 +40,8 @@ filing File = true
 filing Show = false
 
 -- its kind, whether it was done, the buckets before and after it, and its comparisons
-unfoldable pub countedBy : Job.Tally → Kind → Bool → ℕ → ℕ → ℕ → Job.Tally
-countedBy t kind done before after comparisons =
+unfoldable pub counted_by : Job.Tally → Kind → Bool → ℕ → ℕ → ℕ → Job.Tally
+counted_by t kind done before after comparisons =
     record {
       entries = plus t.entries (one (done && entering kind));
       withdrawals = plus t.withdrawals (one (done && withdrawing kind));

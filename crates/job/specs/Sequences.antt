@@ -4,10 +4,10 @@
 use Rattle.std.specs.Prelude.{List, [], ◌∷◌, ◌++◌, ℕ, take}
 use Rattle.model.specs.Calls.{Terms}
 use Rattle.model.specs.Plain.{Book}
-use Rattle.model.specs.Runs.{Call, Event, Tell, bookAfter}
+use Rattle.model.specs.Runs.{Call, Event, Tell, book_after}
 use Rattle.model.specs.Text.{lines_of}
 use Rattle.model.specs.Deeds.{calls_of, Deed, Deed.calling, Deed.working}
-use Rattle.model.specs.Heard.{seenIn, toldIn}
+use Rattle.model.specs.Heard.{seen_in, told_in}
 use Rattle.store.specs.Sequences as Calls
 use Rattle.job.specs.Counts.{tally_of}
 use Rattle.job.specs.Runs.{Did}
@@ -32,13 +32,13 @@ pub data Made : Type 0 where
   worked : List ℕ → List ℕ → List ℕ → Tally → Left → Made
 
 -- what was asked, and the words left
-abbrev pub askedIn : Made → Deed
-askedIn (called m) = calling m.call
-askedIn (worked scratch text out t l) = working scratch text out (tally_of t)
+abbrev pub asked_in : Made → Deed
+asked_in (called m) = calling m.call
+asked_in (worked scratch text out t l) = working scratch text out (tally_of t)
 
-abbrev pub leftBy : Made → List ℕ
-leftBy (called m) = m.gives.words
-leftBy (worked scratch text out t l) = l.words
+abbrev pub left_by : Made → List ℕ
+left_by (called m) = m.gives.words
+left_by (worked scratch text out t l) = l.words
 
 -- each met its contract
 abbrev pub Meets : List ℕ → Made → Type 0
@@ -47,52 +47,52 @@ Meets w (worked scratch text out t l) = Works w scratch text out t l
 
 abbrev pub AllMeet : List ℕ → List Made → Type 0
 AllMeet w [] = Unit {0}
-AllMeet w (m ∷ ms) = Meets w m × AllMeet (leftBy m) ms
+AllMeet w (m ∷ ms) = Meets w m × AllMeet (left_by m) ms
 
 -- the words at the end
-abbrev pub endWords : List ℕ → List Made → List ℕ
-endWords w [] = w
-endWords w (m ∷ ms) = endWords (leftBy m) ms
+abbrev pub end_words : List ℕ → List Made → List ℕ
+end_words w [] = w
+end_words w (m ∷ ms) = end_words (left_by m) ms
 
 -- the lines that a job answered, and the answer lines in the output that it left
-abbrev pub linesDone : List ℕ → Left → List (List ℕ)
-linesDone text l = take l.done.lines (lines_of text)
+abbrev pub lines_done : List ℕ → Left → List (List ℕ)
+lines_done text l = take l.done.lines (lines_of text)
 
-abbrev pub linesWritten : Left → List (List ℕ)
-linesWritten l = lines_of (take l.done.bytes l.out)
+abbrev pub lines_written : Left → List (List ℕ)
+lines_written l = lines_of (take l.done.bytes l.out)
 
 -- what is known outside: the store opened anew, and each act with the number and the faults that the program gave or wrote
 abbrev pub seen : Made → List Event
 seen (called m) = Calls.seen m.call m.gives
-seen (worked scratch text out t l) = seenIn (linesDone text l) (linesWritten l)
+seen (worked scratch text out t l) = seen_in (lines_done text l) (lines_written l)
 
-abbrev pub seenOf : List Made → List Event
-seenOf [] = []
-seenOf (m ∷ ms) = seen m ++ seenOf ms
+abbrev pub seen_of : List Made → List Event
+seen_of [] = []
+seen_of (m ∷ ms) = seen m ++ seen_of ms
 
 -- the terms of the last Open that was accepted, where the store was opened with the terms t before; no job opens a store
-abbrev pub termsBy : Terms → Made → Terms
-termsBy t (called m) = Calls.termsBy t m.call m.gives
-termsBy t (worked scratch text out tally l) = t
+abbrev pub terms_by : Terms → Made → Terms
+terms_by t (called m) = Calls.terms_by t m.call m.gives
+terms_by t (worked scratch text out tally l) = t
 
-abbrev pub lastAsked : Terms → List Made → Terms
-lastAsked t [] = t
-lastAsked t (m ∷ ms) = lastAsked (termsBy t m) ms
+abbrev pub last_asked : Terms → List Made → Terms
+last_asked t [] = t
+last_asked t (m ∷ ms) = last_asked (terms_by t m) ms
 
 -- what demand 2 compares
 abbrev pub told : Made → List Tell
-told (called m) = Calls.toldOf (m ∷ [])
-told (worked scratch text out t l) = toldIn (linesDone text l) (linesWritten l)
+told (called m) = Calls.told_of (m ∷ [])
+told (worked scratch text out t l) = told_in (lines_done text l) (lines_written l)
 
-abbrev pub toldOf : List Made → List Tell
-toldOf [] = []
-toldOf (m ∷ ms) = told m ++ toldOf ms
+abbrev pub told_of : List Made → List Tell
+told_of [] = []
+told_of (m ∷ ms) = told m ++ told_of ms
 
 -- the same asked of a plain list: the calls, and for a job those of its answered lines, with scratch as long as the list's own shape needs
-abbrev pub callsTo : Book → Made → List Call
-callsTo b (called m) = m.call ∷ []
-callsTo b (worked scratch text out t l) = calls_of b.shape (linesDone text l)
+abbrev pub calls_to : Book → Made → List Call
+calls_to b (called m) = m.call ∷ []
+calls_to b (worked scratch text out t l) = calls_of b.shape (lines_done text l)
 
-abbrev pub callsToAll : Book → List Made → List Call
-callsToAll b [] = []
-callsToAll b (m ∷ ms) = callsTo b m ++ callsToAll (bookAfter b (callsTo b m)) ms
+abbrev pub calls_to_all : Book → List Made → List Call
+calls_to_all b [] = []
+calls_to_all b (m ∷ ms) = calls_to b m ++ calls_to_all (book_after b (calls_to b m)) ms

@@ -2,11 +2,11 @@
 use Rattle.std.specs.Prelude.{◌≡◌, Bool, true, false, cond, List, [], ℕ, ◌+◌, ◌*◌, ◌≤◌, ltb, eqb, length}
 use Rattle.std.proofs.lemmas.List.Edits.{sets}
 use Rattle.model.specs.Model.{Store}
-use Rattle.model.specs.Shape.{faultsEver}
+use Rattle.model.specs.Shape.{faults_ever}
 use Rattle.model.specs.Layout.{encode, decode}
-use Rattle.model.specs.Numbers.{badLine}
-use Rattle.model.specs.Calls.{Step, refused, stays, enterStep, fileStep, showStep, withdrawStep}
-use Rattle.model.specs.Job.{enough, line_of, step_of, pairText, answerText, counted}
+use Rattle.model.specs.Numbers.{bad_line}
+use Rattle.model.specs.Calls.{Step, refused, stays, enter_step, file_step, show_step, withdraw_step}
+use Rattle.model.specs.Job.{enough, line_of, step_of, pair_text, answer_text, counted}
 use Rattle.model.specs.Job as Job
 use Rattle.job.specs.Counts.{tally_of}
 use Rattle.job.specs.declared.fields.Kind.{Kind}
@@ -15,29 +15,29 @@ use Rattle.job.specs.declared.fields.Parsed.{Parsed}
 use Rattle.job.specs.declared.turn.Turned.{Turned}
 
 -- what is told of a line, asked of a store: by its kind
-unfoldable pub askedAs : Kind → Store → Parsed → Step
-askedAs Bad s p = stays (refused badLine) s []
-askedAs Enter s p = enterStep s p.serial p.len
-askedAs Withdraw s p = withdrawStep s p.serial p.len enough
-askedAs File s p = fileStep s p.serial p.len p.day p.code
-askedAs Show s p = showStep s p.serial p.len enough
+unfoldable pub asked_as : Kind → Store → Parsed → Step
+asked_as Bad s p = stays (refused bad_line) s []
+asked_as Enter s p = enter_step s p.serial p.len
+asked_as Withdraw s p = withdraw_step s p.serial p.len enough
+asked_as File s p = file_step s p.serial p.len p.day p.code
+asked_as Show s p = show_step s p.serial p.len enough
 
 unfoldable pub asked : Store → Parsed → Step
-asked s p = askedAs p.kind s p
+asked s p = asked_as p.kind s p
 
 -- how many pairs an answer of this kind, number and count lists: those of a done show or withdraw
-unfoldable pub listedBy : Kind → ℕ → ℕ → ℕ
-listedBy Bad number faults = 0
-listedBy Enter number faults = 0
-listedBy Withdraw number faults = cond (eqb number 0) faults 0
-listedBy File number faults = 0
-listedBy Show number faults = cond (eqb number 0) faults 0
+unfoldable pub listed_by : Kind → ℕ → ℕ → ℕ
+listed_by Bad number faults = 0
+listed_by Enter number faults = 0
+listed_by Withdraw number faults = cond (eqb number 0) faults 0
+listed_by File number faults = 0
+listed_by Show number faults = cond (eqb number 0) faults 0
 
 -- the room holds the pairs that the step lists
 pub record Lists (kind : Kind) (r : Step) (count : ℕ) (room : List ℕ) : Type 0 where
-  pub count-is : count ≡ listedBy kind r.answer.number r.answer.faults
-  pub few : count ≤ faultsEver
-  pub text-is : pairText count room ≡ pairText count r.room
+  pub count_is : count ≡ listed_by kind r.answer.number r.answer.faults
+  pub few : count ≤ faults_ever
+  pub text_is : pair_text count room ≡ pair_text count r.room
 
 -- what a line leaves: whether its answer fitted, the words, the output and where its text ends, the tally
 pub record Turn : Type 0 where
@@ -53,20 +53,20 @@ turn_of w x out at t =
     let s = decode w in
     let l = line_of x in
     let step = step_of s l in
-    let answer = answerText l step in
+    let answer = answer_text l step in
     cond (ltb (length out) (at + length answer))
     (record { fits = false; words = w; out = out; end = at; tally = t })
     (record { fits = true; words = encode step.store; out = sets out at answer; end = at + length answer; tally = counted t s l step })
 
 -- the longest answer: four numbers of ten digits, three spaces, LF, and 22 bytes for each fault
 abbrev pub longest : ℕ
-longest = 44 + 22 * faultsEver
+longest = 44 + 22 * faults_ever
 
 -- a turn of the program, held to it
 pub record Turns (t : Turn) (at : ℕ) (r : Turned) (words out : List ℕ) : Type 0 where
-  pub fits-is : r.fits ≡ t.fits
+  pub fits_is : r.fits ≡ t.fits
   pub end_is : r.end ≡ t.end
-  pub tally-is : tally_of r.tally ≡ t.tally
+  pub tally_is : tally_of r.tally ≡ t.tally
   pub words_are : words ≡ t.words
-  pub out-is : out ≡ t.out
+  pub out_is : out ≡ t.out
   pub most : r.end ≤ at + longest

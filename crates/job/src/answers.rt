@@ -1,8 +1,8 @@
 // Answers as text, written into an output that has room for them.
 ghost use Rattle.std.specs.Prelude.{◌≡◌, ◌+◌, ◌*◌, ◌≤◌, ◌<◌, length, get_or};
-ghost use Rattle.model.specs.Job.{pairText};
+ghost use Rattle.model.specs.Job.{pair_text};
 ghost use Rattle.text.specs.Decimals.{Puts};
-ghost use Rattle.job.specs.Answers.{PairLong, PairsLong, AnswerLong, pair_of, numbersOf, answer_of};
+ghost use Rattle.job.specs.Answers.{PairLong, PairsLong, AnswerLong, pair_of, numbers_of, answer_of};
 
 use super::letters::COLON;
 use text::decimals::{decimal_len, put_byte, put_decimal, put_marked};
@@ -27,8 +27,8 @@ fn word(room: &[u32], at: usize) -> u32
 
 // The pairs of the first `count` faults that the room holds.
 pub fn put_pairs(out: &mut [u8], at: usize, count: u32, room: &[u32]) -> usize
-    requires { (2 * count ≤ length room.now) × (at + length (pairText count room.now) ≤ length out.old) }
-    ensures { Puts out.old at (pairText count room.now) result out.new }
+    requires { (2 * count ≤ length room.now) × (at + length (pair_text count room.now) ≤ length out.old) }
+    ensures { Puts out.old at (pair_text count room.now) result out.new }
 {
     let mut end = at;
     let mut k: u32 = 0;
@@ -52,8 +52,8 @@ pub fn put_numbers(
     scanned: u32,
     faults: u32,
 ) -> usize
-    requires { at + length (numbersOf number comparisons scanned faults) ≤ length out.old }
-    ensures { Puts out.old at (numbersOf number comparisons scanned faults) result out.new }
+    requires { at + length (numbers_of number comparisons scanned faults) ≤ length out.old }
+    ensures { Puts out.old at (numbers_of number comparisons scanned faults) result out.new }
 {
     let a = put_decimal(out, at, number);
     let b = put_marked(out, a, SPACE, comparisons);

@@ -1,7 +1,7 @@
 // A line taken apart into its fields.
 ghost use Rattle.std.specs.Prelude.{◌≡◌, min, [], ◌∷◌};
 ghost use Rattle.model.specs.Text.{space, fields};
-ghost use Rattle.model.specs.Job.{bad, two, four, fromFields, padded, line_of};
+ghost use Rattle.model.specs.Job.{bad, two, four, from_fields, padded, line_of};
 ghost use Rattle.job.specs.Told.{Holds, Told};
 
 use super::letters;
@@ -111,7 +111,7 @@ fn fault_line(op: u8, serial: &[u8], day: &[u8], code: &[u8]) -> Parsed
 
 // A line whose serial is not its last field, with what stands behind the serial: two fields more, or it is bad.
 fn longer_line(op: u8, serial: &[u8], rest: &[u8]) -> Parsed
-    ensures { Told (fromFields ((op ∷ []) ∷ serial.now ∷ fields space rest.now)) result }
+    ensures { Told (from_fields ((op ∷ []) ∷ serial.now ∷ fields space rest.now)) result }
 {
     let gap = field_end(rest, 0);
     if rest.len() <= gap {

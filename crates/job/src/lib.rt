@@ -1,9 +1,9 @@
 // The job: lines of text run against a store, their answers, and the tally.
 ghost use Rattle.std.specs.Prelude.{◌≡◌, true, ◌*◌, ◌≤◌, length};
-ghost use Rattle.model.specs.Shape.{faultsEver};
+ghost use Rattle.model.specs.Shape.{faults_ever};
 ghost use Rattle.model.specs.Layout.{sound};
-ghost use Rattle.model.specs.Job.{mostText};
-ghost use Rattle.job.specs.Runs.{linesOn, Ends, refusedRan, Did};
+ghost use Rattle.model.specs.Job.{most_text};
+ghost use Rattle.job.specs.Runs.{lines_on, Ends, refused_ran, Did};
 ghost use Rattle.job.specs.Counts.{tally_of};
 
 pub mod answers; // answers.rt: answers as text
@@ -37,8 +37,8 @@ pub const MOST_TEXT: usize = 16384;
 
 // The lines of a text on a store known to be sound, one turn a line, until one does not fit.
 fn run_lines(words: &mut [u32], room: &mut [u32], text: &[u8], out: &mut [u8], tally: Tally) -> Ran
-    requires { (sound words.old ≡ true) × (2 * faultsEver ≤ length room.old) × (length text.now ≤ mostText) }
-    ensures { Ends (linesOn words.old text.now out.old (tally_of tally)) out.old result.done result.tally words.new out.new }
+    requires { (sound words.old ≡ true) × (2 * faults_ever ≤ length room.old) × (length text.now ≤ most_text) }
+    ensures { Ends (lines_on words.old text.now out.old (tally_of tally)) out.old result.done result.tally words.new out.new }
 {
     let mut sum = tally;
     let mut lines: u32 = 0;
@@ -75,8 +75,8 @@ fn run_lines(words: &mut [u32], room: &mut [u32], text: &[u8], out: &mut [u8], t
 
 // The lines, with room for the pairs of one answer.
 fn run_with_room(words: &mut [u32], text: &[u8], out: &mut [u8], tally: Tally) -> Ran
-    requires { (sound words.old ≡ true) × (length text.now ≤ mostText) }
-    ensures { Ends (linesOn words.old text.now out.old (tally_of tally)) out.old result.done result.tally words.new out.new }
+    requires { (sound words.old ≡ true) × (length text.now ≤ most_text) }
+    ensures { Ends (lines_on words.old text.now out.old (tally_of tally)) out.old result.done result.tally words.new out.new }
 {
     let mut room = [0u32; turn::ROOM];
     run_lines(words, &mut room, text, out, tally)
@@ -84,7 +84,7 @@ fn run_with_room(words: &mut [u32], text: &[u8], out: &mut [u8], tally: Tally) -
 
 // A job that is refused: no line is done, no byte written, and the tally stays.
 fn refuse(number: u32, tally: Tally) -> Ran
-    ensures { result ≡ refusedRan number tally }
+    ensures { result ≡ refused_ran number tally }
 {
     Ran {
         done: Done {

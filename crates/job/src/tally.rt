@@ -2,7 +2,7 @@
 // the top instead of passing it. It goes in by value and comes back.
 ghost use Rattle.std.specs.Prelude.{◌≡◌, ◌&&◌};
 ghost use Rattle.model.specs.Job.{plus, one};
-ghost use Rattle.job.specs.Counts.{tally_of, entering, withdrawing, filing, countedBy};
+ghost use Rattle.job.specs.Counts.{tally_of, entering, withdrawing, filing, counted_by};
 
 use super::fields::Kind;
 
@@ -68,7 +68,7 @@ fn filing(kind: Kind) -> bool
 
 // The tally after an answered line: its kind, whether it was done, the buckets before and after it, its comparisons.
 pub fn count(t: Tally, kind: Kind, done: bool, before: u32, after: u32, comparisons: u32) -> Tally
-    ensures { tally_of result ≡ countedBy (tally_of t) kind done before after comparisons }
+    ensures { tally_of result ≡ counted_by (tally_of t) kind done before after comparisons }
 {
     Tally {
         entries: plus(t.entries, one_of(done, entering(kind))),

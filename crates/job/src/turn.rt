@@ -2,7 +2,7 @@
 // has no effect.
 ghost use Rattle.std.specs.Prelude.{◌≡◌, true, ◌+◌, ◌*◌, ◌≤◌, length};
 ghost use Rattle.model.specs.Layout.{decode, encode, sound};
-ghost use Rattle.model.specs.Shape.{faultsEver};
+ghost use Rattle.model.specs.Shape.{faults_ever};
 ghost use Rattle.text.specs.Decimals.{Puts};
 ghost use Rattle.store.specs.Plans.{Plans};
 ghost use Rattle.job.specs.Counts.{tally_of};
@@ -43,7 +43,7 @@ fn plan_line(words: &[u32], p: Parsed) -> Plan
 
 // Writes the pairs that a done show or withdraw lists into the room, and says how many there are; any other line lists none.
 fn list_pairs(words: &[u32], p: Parsed, plan: Plan, room: &mut [u32]) -> u32
-    requires { (sound words.now ≡ true) × Plans (asked (decode words.now) p).answer words.now p.serial p.len plan × (2 * faultsEver ≤ length room.old) }
+    requires { (sound words.now ≡ true) × Plans (asked (decode words.now) p).answer words.now p.serial p.len plan × (2 * faults_ever ≤ length room.old) }
     ensures { Lists p.kind (asked (decode words.now) p) result room.new }
 {
     if plan.number != 0 {
@@ -118,7 +118,7 @@ pub fn turn(
     at: usize,
     tally: Tally,
 ) -> Turned
-    requires { (sound words.old ≡ true) × (2 * faultsEver ≤ length room.old) × (at ≤ length out.old) }
+    requires { (sound words.old ≡ true) × (2 * faults_ever ≤ length room.old) × (at ≤ length out.old) }
     ensures { Turns (turn_of words.old line.now out.old at (tally_of tally)) at result words.new out.new }
 {
     let p = fields::parse(line);

@@ -10,15 +10,15 @@ use mathlib.Core.Bool.{true, false}
 use native.Mathlib.Omega.{arith}
 use lib.ListN.{length}
 use Rattle.rules.proofs.Tests.{by_cases}
-use Rattle.model.specs.Model.{Fault, Card, is, found, before, comparisons, withFault, noted, without}
+use Rattle.model.specs.Model.{Fault, Card, is, found, before, comparisons, with_fault, noted, without}
 use Rattle.model.proofs.Lists.{length_none}
 
 -- no card has the serial
 pub record Absent (y : List ℕ) (chain : List Card) : Type 0 where
   pub none : found y chain ≡ []
   pub whole : before y chain ≡ chain
-  pub without-none : without y chain ≡ chain
-  pub noted-none : (f : Fault) → noted f y chain ≡ chain
+  pub without_none : without y chain ≡ chain
+  pub noted_none : (f : Fault) → noted f y chain ≡ chain
   pub place : comparisons y chain ≡ length chain
 
 -- one card has it
@@ -28,14 +28,14 @@ pub record Present (y : List ℕ) (chain : List Card) : Type 0 where
   pub parts : chain ≡ before y chain ++ (card ∷ after)
   pub named : is y card ≡ true
   pub only : found y chain ≡ card ∷ []
-  pub without-it : without y chain ≡ before y chain ++ after
-  pub noted-it : (f : Fault) → noted f y chain ≡ before y chain ++ (withFault f card ∷ after)
+  pub without_it : without y chain ≡ before y chain ++ after
+  pub noted_it : (f : Fault) → noted f y chain ≡ before y chain ++ (with_fault f card ∷ after)
   pub place : comparisons y chain ≡ length (before y chain) + 1
 
 module _ (y : List ℕ) where
   pub absent : (chain : List Card) → found y chain ≡ [] → Absent y chain
   unfolding comparisons
-  absent [] e = record { none = refl; whole = refl; without-none = refl; noted-none = λ f. refl; place = refl }
+  absent [] e = record { none = refl; whole = refl; without_none = refl; noted_none = λ f. refl; place = refl }
   absent (c ∷ cs) e =
       by_cases (is y c)
       (λ k. absurd (let z = ap length (rw k at e) in omega arith))
@@ -43,8 +43,8 @@ module _ (y : List ℕ) where
       record {
         none = e;
         whole = rw k (ap (λ (l : List Card). c ∷ l) a.whole);
-        without-none = rw k (ap (λ (l : List Card). c ∷ l) a.without-none);
-        noted-none = λ f. rw k (ap (λ (l : List Card). c ∷ l) (a.noted-none f));
+        without_none = rw k (ap (λ (l : List Card). c ∷ l) a.without_none);
+        noted_none = λ f. rw k (ap (λ (l : List Card). c ∷ l) (a.noted_none f));
         place = rw (k, a.none, a.whole) (omega arith);
       })
 
@@ -58,8 +58,8 @@ module _ (y : List ℕ) where
         parts = rw k;
         named = k;
         only = rw (k, e);
-        without-it = rw k a.without-none;
-        noted-it = λ f. rw k (ap (λ (l : List Card). withFault f c ∷ l) (a.noted-none f));
+        without_it = rw k a.without_none;
+        noted_it = λ f. rw k (ap (λ (l : List Card). with_fault f c ∷ l) (a.noted_none f));
         place = rw (k, e);
       }
 
@@ -72,8 +72,8 @@ module _ (y : List ℕ) where
         parts = rw k (ap (λ (l : List Card). c ∷ l) p.parts);
         named = p.named;
         only = rw k p.only;
-        without-it = rw k (ap (λ (l : List Card). c ∷ l) p.without-it);
-        noted-it = λ f. rw k (ap (λ (l : List Card). c ∷ l) (p.noted-it f));
+        without_it = rw k (ap (λ (l : List Card). c ∷ l) p.without_it);
+        noted_it = λ f. rw k (ap (λ (l : List Card). c ∷ l) (p.noted_it f));
         place = rw k (omega (arith, p.place));
       }
 

@@ -1,4 +1,4 @@
--- Words that stand for a store are read back to it (`rep-decode`): the limits and the state are words of the front, each chain is what
+-- Words that stand for a store are read back to it (`rep_decode`): the limits and the state are words of the front, each chain is what
 -- its next words lead through, within the fuel since no cell stands twice, and each card's and fault's words give it back.
 use mathlib.Core.Path.{◌≡◌, refl, sym, ap, ◌∙◌, subst}
 use mathlib.Core.List.{List, [], ◌∷◌, ◌++◌, map}
@@ -10,153 +10,153 @@ use lib.ListN.{length, get_or, take, replicate, get_or-replicate, get_or-append,
 use lib.Seq.{get_or-append-add}
 use Rattle.rules.proofs.Tests.{both}
 use Rattle.model.specs.Lists.{all, from}
-use Rattle.model.specs.Serial.{serialOk}
-use Rattle.model.specs.Shape.{Shape, topOf, cardWidth}
-use Rattle.model.specs.Model.{Store, Card, Fault, cards, size, bucket, cells_of, faultCellsOf}
-use Rattle.model.specs.Layout.{formatAt, limitAt, faultLimitAt, maxpAt, p_at, freeAt, freeFaultsAt, boundsAt, toNext, toLength, toSerial, toFirst, toDay, toCode, Cell, head_or, chained, ats_of, faultWidth, segmentsAt, cardCell, faultCell, freeCell, cardChains, faultChains, cardsAt, faultsAt, header, directory, segments, front, first, follow, cardWord, faultWord, readFault, readCard, readChain, shape_of, decodeAs, decode, goodCard}
-use Rattle.model.proofs.Lists.{Every, every-join, at_every, every_map}
+use Rattle.model.specs.Serial.{serial_ok}
+use Rattle.model.specs.Shape.{Shape, top_of, card_width}
+use Rattle.model.specs.Model.{Store, Card, Fault, cards, size, bucket, cells_of, fault_cells_of}
+use Rattle.model.specs.Layout.{format_at, limit_at, fault_limit_at, maxp_at, p_at, free_at, free_faults_at, bounds_at, to_next, to_length, to_serial, to_first, to_day, to_code, Cell, head_or, chained, ats_of, fault_width, segments_at, card_cell, fault_cell, free_cell, card_chains, fault_chains, cards_at, faults_at, header, directory, segments, front, first, follow, card_word, fault_word, read_fault, read_card, read_chain, shape_of, decode_as, decode, good_card}
+use Rattle.model.proofs.Lists.{Every, every_join, at_every, every_map}
 use Rattle.model.proofs.Tables.{table_is}
 use Rattle.model.proofs.Chains.{Stands, Stand}
-use Rattle.model.proofs.Part.{cellIn, held-follow}
-use Rattle.model.proofs.Shapes.{in-card, shape-read}
+use Rattle.model.proofs.Part.{cell_in, held_follow}
+use Rattle.model.proofs.Shapes.{in_card, shape_read}
 use Rattle.model.proofs.Fair.{Fair}
-use Rattle.model.proofs.Rep.{Rep, rep-front, rep-head, directory-length, size_top}
-use Rattle.model.proofs.Serials.{serial-read}
+use Rattle.model.proofs.Rep.{Rep, rep_front, rep_head, directory_length, size_top}
+use Rattle.model.proofs.Serials.{serial_read}
 
 -- heads
 
-pub head-cards : (b : List Card) → first (cells_of b) ≡ head_or 0 (map cardCell b)
-unfolding cardCell
-head-cards [] = refl
-head-cards (c ∷ cs) = refl
+pub head_cards : (b : List Card) → first (cells_of b) ≡ head_or 0 (map card_cell b)
+unfolding card_cell
+head_cards [] = refl
+head_cards (c ∷ cs) = refl
 
-pub head-faults : (l : List Fault) → first (faultCellsOf l) ≡ head_or 0 (map faultCell l)
-unfolding faultCell
-head-faults [] = refl
-head-faults (f ∷ fs) = refl
+pub head_faults : (l : List Fault) → first (fault_cells_of l) ≡ head_or 0 (map fault_cell l)
+unfolding fault_cell
+head_faults [] = refl
+head_faults (f ∷ fs) = refl
 
-pub head-free : (width : ℕ) (l : List ℕ) → first l ≡ head_or 0 (map (freeCell width) l)
-unfolding freeCell
-head-free width [] = refl
-head-free width (x ∷ xs) = refl
+pub head_free : (width : ℕ) (l : List ℕ) → first l ≡ head_or 0 (map (free_cell width) l)
+unfolding free_cell
+head_free width [] = refl
+head_free width (x ∷ xs) = refl
 
-ats-free : (width : ℕ) (l : List ℕ) → ats_of (map (freeCell width) l) ≡ l
-unfolding freeCell
-ats-free width [] = refl
-ats-free width (x ∷ xs) = ap (λ (l : List ℕ). x ∷ l) (ats-free width xs)
+ats_free : (width : ℕ) (l : List ℕ) → ats_of (map (free_cell width) l) ≡ l
+unfolding free_cell
+ats_free width [] = refl
+ats_free width (x ∷ xs) = ap (λ (l : List ℕ). x ∷ l) (ats_free width xs)
 
 -- the word of a bucket in use, and of one that is not
 
-pub segments-from : (s : Store) (b : ℕ) → get_or (front s) (segmentsAt s.shape + b) 0 ≡ get_or (segments s) b 0
+pub segments_from : (s : Store) (b : ℕ) → get_or (front s) (segments_at s.shape + b) 0 ≡ get_or (segments s) b 0
 unfolding front header
-segments-from s b =
-    let e : segmentsAt s.shape + b ≡ length (header s) + (length (directory s) + b) = omega (arith, directory-length s) in
+segments_from s b =
+    let e : segments_at s.shape + b ≡ length (header s) + (length (directory s) + b) = omega (arith, directory_length s) in
     ap (λ (m : ℕ). get_or (front s) m 0) e
     ∙ get_or-append-add (header s) (directory s ++ segments s) (length (directory s) + b) 0
     ∙ get_or-append-add (directory s) (segments s) b 0
 
-pub segment-at : (s : Store) (b : ℕ) → b < length s.buckets → get_or (front s) (segmentsAt s.shape + b) 0 ≡ head_or 0 (map cardCell (bucket s b))
+pub segment_at : (s : Store) (b : ℕ) → b < length s.buckets → get_or (front s) (segments_at s.shape + b) 0 ≡ head_or 0 (map card_cell (bucket s b))
 unfolding segments
-segment-at s b h =
+segment_at s b h =
     let f : List Card → ℕ = λ b. first (cells_of b) in
-    segments-from s b
-    ∙ get_or-append (map f s.buckets) (replicate (topOf s.shape - size s) 0) 0 b (omega (arith, length-map s.buckets f))
+    segments_from s b
+    ∙ get_or-append (map f s.buckets) (replicate (top_of s.shape - size s) 0) 0 b (omega (arith, length-map s.buckets f))
     ∙ get_or-map f s.buckets b []
-    ∙ head-cards (bucket s b)
+    ∙ head_cards (bucket s b)
 
-pub segment-past : (s : Store) (b : ℕ) → Fair s → size s ≤ b → b < topOf s.shape → get_or (front s) (segmentsAt s.shape + b) 0 ≡ 0
+pub segment_past : (s : Store) (b : ℕ) → Fair s → size s ≤ b → b < top_of s.shape → get_or (front s) (segments_at s.shape + b) 0 ≡ 0
 unfolding segments
-segment-past s b r h t =
+segment_past s b r h t =
     let f : List Card → ℕ = λ b. first (cells_of b) in
     let e : b ≡ length (map f s.buckets) + (b - size s) = omega (arith, length-map s.buckets f, r.number) in
-    segments-from s b
+    segments_from s b
     ∙ ap (λ (m : ℕ). get_or (segments s) m 0) e
-    ∙ get_or-append-add (map f s.buckets) (replicate (topOf s.shape - size s) 0) (b - size s) 0
-    ∙ get_or-replicate (topOf s.shape - size s) (b - size s) 0 0 (omega arith)
+    ∙ get_or-append-add (map f s.buckets) (replicate (top_of s.shape - size s) 0) (b - size s) 0
+    ∙ get_or-replicate (top_of s.shape - size s) (b - size s) 0 0 (omega arith)
 
 module _ (w : List ℕ) (s : Store) (r : Rep w s) where
-  pub limit-at : get_or w limitAt 0 ≡ s.shape.limit
+  pub limit_at_lem : get_or w limit_at 0 ≡ s.shape.limit
   unfolding front header
-  limit-at = rep-head r limitAt (lit< tt)
+  limit_at_lem = rep_head r limit_at (lit< tt)
 
-  pub fault-limit-at : get_or w faultLimitAt 0 ≡ s.shape.faultLimit
+  pub fault_limit_at_lem : get_or w fault_limit_at 0 ≡ s.shape.fault_limit
   unfolding front header
-  fault-limit-at = rep-head r faultLimitAt (lit< tt)
+  fault_limit_at_lem = rep_head r fault_limit_at (lit< tt)
 
   -- the shape
   pub shape_at : shape_of w ≡ s.shape
   unfolding front header
-  shape_at = shape-read w s.shape r.fair.shape (rep-head r formatAt (lit< tt)) limit-at fault-limit-at (rep-head r boundsAt (lit< tt))
+  shape_at = shape_read w s.shape r.fair.shape (rep_head r format_at (lit< tt)) limit_at_lem fault_limit_at_lem (rep_head r bounds_at (lit< tt))
 
   -- faults
 
-  read-faults : (t : ℕ) (l : List Fault) → Stand (cellIn w (faultsAt s.shape) faultWidth) faultWidth (chained t (map faultCell l)) → map (readFault s.shape w) (ats_of (map faultCell l)) ≡ l
-  unfolding faultCell readFault faultWord
-  read-faults t [] q = refl
-  read-faults t (f ∷ fs) q =
-      let d : faultWord s.shape w f.at toDay ≡ f.day = q.0 toDay (lit< tt) in
-      let c : faultWord s.shape w f.at toCode ≡ f.code = q.0 toCode (lit< tt) in
-      λ i. record { at = f.at; day = d i; code = c i } ∷ read-faults t fs q.1 i
+  read_faults : (t : ℕ) (l : List Fault) → Stand (cell_in w (faults_at s.shape) fault_width) fault_width (chained t (map fault_cell l)) → map (read_fault s.shape w) (ats_of (map fault_cell l)) ≡ l
+  unfolding fault_cell read_fault fault_word
+  read_faults t [] q = refl
+  read_faults t (f ∷ fs) q =
+      let d : fault_word s.shape w f.at to_day ≡ f.day = q.0 to_day (lit< tt) in
+      let c : fault_word s.shape w f.at to_code ≡ f.code = q.0 to_code (lit< tt) in
+      λ i. record { at = f.at; day = d i; code = c i } ∷ read_faults t fs q.1 i
 
   -- the history of a card
   Filed : List Cell → Type 0
-  Filed ch = Stand (cellIn w (faultsAt s.shape) faultWidth) faultWidth (chained 0 ch) × (follow s.shape.faultLimit (λ k. faultWord s.shape w k toNext) (head_or 0 ch) ≡ ats_of ch)
+  Filed ch = Stand (cell_in w (faults_at s.shape) fault_width) fault_width (chained 0 ch) × (follow s.shape.fault_limit (λ k. fault_word s.shape w k to_next) (head_or 0 ch) ≡ ats_of ch)
 
-  filed-at : (j : ℕ) → Filed (get_or (faultChains s) j [])
-  unfolding Filed faultWord
-  filed-at j = (r.faults j, (held-follow w (faultsAt s.shape) faultWidth s.shape.faultLimit (faultChains s) (lit< tt) r.fair.faultCells r.faults j))
+  filed_at : (j : ℕ) → Filed (get_or (fault_chains s) j [])
+  unfolding Filed fault_word
+  filed_at j = (r.faults j, (held_follow w (faults_at s.shape) fault_width s.shape.fault_limit (fault_chains s) (lit< tt) r.fair.fault_cells r.faults j))
 
-  filed-all : Every (λ c. Filed (map faultCell c.faults)) (cards s)
-  filed-all =
-      let g : Card → List Cell = λ c. map faultCell c.faults in
-      every_map Filed g (cards s) (at_every Filed (map g (cards s)) [] (λ j. filed-at (suc j)))
+  filed_all : Every (λ c. Filed (map fault_cell c.faults)) (cards s)
+  filed_all =
+      let g : Card → List Cell = λ c. map fault_cell c.faults in
+      every_map Filed g (cards s) (at_every Filed (map g (cards s)) [] (λ j. filed_at (suc j)))
 
   -- cards
 
-  read-card : (t : ℕ) (c : Card) → serialOk c.serial ≡ true → Filed (map faultCell c.faults)
-      → Stands (cellIn w (cardsAt s.shape) (cardWidth s.shape)) (cardWidth s.shape) (record { at = c.at; words = t ∷ (cardCell c).words }) → readCard s.shape w c.at ≡ c
-  unfolding cardCell readCard cardWord Filed
-  read-card t c v f q =
-      let e : take (cardWord s.shape w c.at toLength) _ ≡ c.serial = serial-read _ _ _ _ _ c.serial v (q toLength (in-card s.shape (lit< tt))) (q toSerial (in-card s.shape (lit< tt))) (q (toSerial + 1) (in-card s.shape (lit< tt))) (q (toSerial + 2) (in-card s.shape (lit< tt))) (q (toSerial + 3) (in-card s.shape (lit< tt))) in
-      let g : map (readFault s.shape w) (follow s.shape.faultLimit (λ k. faultWord s.shape w k toNext) (cardWord s.shape w c.at toFirst)) ≡ c.faults =
-      ap (λ (h : ℕ). map (readFault s.shape w) (follow s.shape.faultLimit (λ k. faultWord s.shape w k toNext) h)) (q toFirst (in-card s.shape (lit< tt)) ∙ head-faults c.faults)
-      ∙ ap (map (readFault s.shape w)) f.1 ∙ read-faults 0 c.faults f.0 in
+  read_card_lem : (t : ℕ) (c : Card) → serial_ok c.serial ≡ true → Filed (map fault_cell c.faults)
+      → Stands (cell_in w (cards_at s.shape) (card_width s.shape)) (card_width s.shape) (record { at = c.at; words = t ∷ (card_cell c).words }) → read_card s.shape w c.at ≡ c
+  unfolding card_cell read_card card_word Filed
+  read_card_lem t c v f q =
+      let e : take (card_word s.shape w c.at to_length) _ ≡ c.serial = serial_read _ _ _ _ _ c.serial v (q to_length (in_card s.shape (lit< tt))) (q to_serial (in_card s.shape (lit< tt))) (q (to_serial + 1) (in_card s.shape (lit< tt))) (q (to_serial + 2) (in_card s.shape (lit< tt))) (q (to_serial + 3) (in_card s.shape (lit< tt))) in
+      let g : map (read_fault s.shape w) (follow s.shape.fault_limit (λ k. fault_word s.shape w k to_next) (card_word s.shape w c.at to_first)) ≡ c.faults =
+      ap (λ (h : ℕ). map (read_fault s.shape w) (follow s.shape.fault_limit (λ k. fault_word s.shape w k to_next) h)) (q to_first (in_card s.shape (lit< tt)) ∙ head_faults c.faults)
+      ∙ ap (map (read_fault s.shape w)) f.1 ∙ read_faults 0 c.faults f.0 in
       λ i. record { at = c.at; serial = e i; faults = g i }
 
-  read-cards : (m p b t : ℕ) (cs : List Card) → all (goodCard m p b) cs ≡ true → Every (λ c. Filed (map faultCell c.faults)) cs
-      → Stand (cellIn w (cardsAt s.shape) (cardWidth s.shape)) (cardWidth s.shape) (chained t (map cardCell cs)) → map (readCard s.shape w) (ats_of (map cardCell cs)) ≡ cs
-  unfolding goodCard cardCell
-  read-cards m p b t [] g f q = refl
-  read-cards m p b t (c ∷ cs) g f q =
-      let h = both (goodCard m p b c) (all (goodCard m p b) cs) g in
-      let v = both (serialOk c.serial) _ h.0 in
-      λ i. read-card (head_or t (map cardCell cs)) c v.0 f.0 q.0 i ∷ read-cards m p b t cs h.1 f.1 q.1 i
+  read_cards : (m p b t : ℕ) (cs : List Card) → all (good_card m p b) cs ≡ true → Every (λ c. Filed (map fault_cell c.faults)) cs
+      → Stand (cell_in w (cards_at s.shape) (card_width s.shape)) (card_width s.shape) (chained t (map card_cell cs)) → map (read_card s.shape w) (ats_of (map card_cell cs)) ≡ cs
+  unfolding good_card card_cell
+  read_cards m p b t [] g f q = refl
+  read_cards m p b t (c ∷ cs) g f q =
+      let h = both (good_card m p b c) (all (good_card m p b) cs) g in
+      let v = both (serial_ok c.serial) _ h.0 in
+      λ i. read_card_lem (head_or t (map card_cell cs)) c v.0 f.0 q.0 i ∷ read_cards m p b t cs h.1 f.1 q.1 i
 
   -- bucket b is chain b + 1 of the part
-  pub cards-at : (b : ℕ) → get_or (map (map cardCell) s.buckets) b [] ≡ map cardCell (bucket s b)
-  cards-at b = get_or-map (map cardCell) s.buckets b []
+  pub cards_at_lem : (b : ℕ) → get_or (map (map card_cell) s.buckets) b [] ≡ map card_cell (bucket s b)
+  cards_at_lem b = get_or-map (map card_cell) s.buckets b []
 
-  pub read-chain : (b : ℕ) → b < length s.buckets → readChain s.shape w b ≡ bucket s b
-  unfolding readChain cardWord cardsAt
-  read-chain b h =
-      let head : get_or w (segmentsAt s.shape + b) 0 ≡ head_or 0 (get_or (cardChains s) (suc b) []) =
-      rep-front r (segmentsAt s.shape + b) (omega (arith, r.fair.number, size_top s r.fair)) ∙ segment-at s b h ∙ ap (head_or 0) (sym (cards-at b)) in
-      let cells = held-follow w (cardsAt s.shape) (cardWidth s.shape) s.shape.limit (cardChains s) (in-card s.shape (lit< tt)) r.fair.cells r.cards (suc b) in
-      ap (map (readCard s.shape w)) (ap (follow s.shape.limit (λ k. cardWord s.shape w k toNext)) head ∙ cells ∙ ap ats_of (cards-at b))
-      ∙ read-cards s.maxp s.p b 0 (bucket s b) (r.fair.addressed b)
-      (every-join (λ c. Filed (map faultCell c.faults)) s.buckets filed-all b)
-      (subst (λ (l : List Cell). Stand (cellIn w (cardsAt s.shape) (cardWidth s.shape)) (cardWidth s.shape) (chained 0 l)) (cards-at b) (r.cards (suc b)))
+  pub read_chain_lem : (b : ℕ) → b < length s.buckets → read_chain s.shape w b ≡ bucket s b
+  unfolding read_chain card_word cards_at
+  read_chain_lem b h =
+      let head : get_or w (segments_at s.shape + b) 0 ≡ head_or 0 (get_or (card_chains s) (suc b) []) =
+      rep_front r (segments_at s.shape + b) (omega (arith, r.fair.number, size_top s r.fair)) ∙ segment_at s b h ∙ ap (head_or 0) (sym (cards_at_lem b)) in
+      let cells = held_follow w (cards_at s.shape) (card_width s.shape) s.shape.limit (card_chains s) (in_card s.shape (lit< tt)) r.fair.cells r.cards (suc b) in
+      ap (map (read_card s.shape w)) (ap (follow s.shape.limit (λ k. card_word s.shape w k to_next)) head ∙ cells ∙ ap ats_of (cards_at_lem b))
+      ∙ read_cards s.maxp s.p b 0 (bucket s b) (r.fair.addressed b)
+      (every_join (λ c. Filed (map fault_cell c.faults)) s.buckets filed_all b)
+      (subst (λ (l : List Cell). Stand (cell_in w (cards_at s.shape) (card_width s.shape)) (card_width s.shape) (chained 0 l)) (cards_at_lem b) (r.cards (suc b)))
 
-  pub rep-decode-as : decodeAs s.shape w ≡ s
-  unfolding decodeAs cardWord faultWord front header Filed cardsAt
-  rep-decode-as =
-      let m = rep-head r maxpAt (lit< tt) in
-      let p = rep-head r p_at (lit< tt) in
-      let bs = ap (λ (n : ℕ). map (readChain s.shape w) (from 0 n)) (λ i. m i + p i) ∙ table_is (readChain s.shape w) (size s) [] s.buckets r.fair.number (λ b h. read-chain b (omega (arith, r.fair.number))) in
-      let fc = ap (follow s.shape.limit (λ k. cardWord s.shape w k toNext)) (rep-head r freeAt (lit< tt) ∙ head-free (cardWidth s.shape) s.free)
-      ∙ held-follow w (cardsAt s.shape) (cardWidth s.shape) s.shape.limit (cardChains s) (in-card s.shape (lit< tt)) r.fair.cells r.cards 0 ∙ ats-free (cardWidth s.shape) s.free in
-      let ff = ap (follow s.shape.faultLimit (λ k. faultWord s.shape w k toNext)) (rep-head r freeFaultsAt (lit< tt) ∙ head-free faultWidth s.freeFaults) ∙ (filed-at 0).1 ∙ ats-free faultWidth s.freeFaults in
-      λ i. record { shape = s.shape; maxp = m i; p = p i; buckets = bs i; free = fc i; freeFaults = ff i }
+  pub rep_decode_as : decode_as s.shape w ≡ s
+  unfolding decode_as card_word fault_word front header Filed cards_at
+  rep_decode_as =
+      let m = rep_head r maxp_at (lit< tt) in
+      let p = rep_head r p_at (lit< tt) in
+      let bs = ap (λ (n : ℕ). map (read_chain s.shape w) (from 0 n)) (λ i. m i + p i) ∙ table_is (read_chain s.shape w) (size s) [] s.buckets r.fair.number (λ b h. read_chain_lem b (omega (arith, r.fair.number))) in
+      let fc = ap (follow s.shape.limit (λ k. card_word s.shape w k to_next)) (rep_head r free_at (lit< tt) ∙ head_free (card_width s.shape) s.free)
+      ∙ held_follow w (cards_at s.shape) (card_width s.shape) s.shape.limit (card_chains s) (in_card s.shape (lit< tt)) r.fair.cells r.cards 0 ∙ ats_free (card_width s.shape) s.free in
+      let ff = ap (follow s.shape.fault_limit (λ k. fault_word s.shape w k to_next)) (rep_head r free_faults_at (lit< tt) ∙ head_free fault_width s.free_faults) ∙ (filed_at 0).1 ∙ ats_free fault_width s.free_faults in
+      λ i. record { shape = s.shape; maxp = m i; p = p i; buckets = bs i; free = fc i; free_faults = ff i }
 
-  pub rep-decode : decode w ≡ s
-  rep-decode = ap (λ (sh : Shape). decodeAs sh w) shape_at ∙ rep-decode-as
+  pub rep_decode : decode w ≡ s
+  rep_decode = ap (λ (sh : Shape). decode_as sh w) shape_at ∙ rep_decode_as

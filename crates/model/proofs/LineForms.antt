@@ -1,6 +1,6 @@
 -- The forms of a job's line. A line asks for an act exactly where it has the act's form, byte by byte, and any other line is bad, number 12
--- (`line-means`): its fields are the pieces between the spaces, so the form is read off them, and a line of that form has these fields. A
--- serial field is valid exactly where it is a serial, number 4 else (`field-means`), and travels as its own bytes (`field-serial`).
+-- (`line_means`): its fields are the pieces between the spaces, so the form is read off them, and a line of that form has these fields. A
+-- serial field is valid exactly where it is a serial, number 4 else (`field_means`), and travels as its own bytes (`field_serial`).
 use mathlib.Core.Path.{◌≡◌, refl, sym, ap, ◌∙◌, subst}
 use mathlib.Core.Logic.{◌⊎◌, inl, inr, ⊎_elim, ◌↔◌}
 use mathlib.Core.List.{List, [], ◌∷◌, ◌++◌}
@@ -13,14 +13,14 @@ use lib.Seq.{length-take-le, get_or-take, get_or-append-add, take-take, take-app
 use borrow.Author.Tests.{ltb-false, le-ltb}
 use Rattle.rules.proofs.Tests.{by_cases, both, all_of}
 use Rattle.model.specs.Lists.{between, all, same}
-use Rattle.model.specs.Text.{fields, is_number, valueFrom}
-use Rattle.model.specs.Job.{Line, bad, enter, show, withdraw, file, two, four, fromFields, line_of, padded}
-use Rattle.model.specs.Serial.{validSerial}
-use Rattle.model.proofs.Lists.{between_is, same-eq, Every, every-imp}
-use Rattle.model.proofs.Walks.{every-all, all-every}
-use Rattle.model.proofs.Valid.{SerialByte, SerialMeans, valid-means}
-use Rattle.model.proofs.Fields.{Without, FieldsMean, fields-are, fields-mean}
-use Rattle.model.proofs.Decimals.{Digit, worth, value-means, digits-without}
+use Rattle.model.specs.Text.{fields, is_number, value_from}
+use Rattle.model.specs.Job.{Line, bad, enter, show, withdraw, file, two, four, from_fields, line_of, padded}
+use Rattle.model.specs.Serial.{valid_serial}
+use Rattle.model.proofs.Lists.{between_is, same_eq, Every, every_imp}
+use Rattle.model.proofs.Walks.{every_all, all_every}
+use Rattle.model.proofs.Valid.{SerialByte, SerialMeans, valid_means}
+use Rattle.model.proofs.Fields.{Without, FieldsMean, fields_are, fields_mean}
+use Rattle.model.proofs.Decimals.{Digit, worth, value_means, digits_without}
 
 -- a number field: 1 to 9 digits, and what they are worth
 pub record NumberField (f : List ℕ) (v : ℕ) : Type 0 where
@@ -37,12 +37,12 @@ pub record Asks (letter : ℕ) (serial line : List ℕ) : Type 0 where
 
 -- `F` (70), serial, day and code, with a space between each two
 pub record AsksFile (serial : List ℕ) (day code : ℕ) (line : List ℕ) : Type 0 where
-  pub day-field : List ℕ
-  pub code-field : List ℕ
-  pub form : line ≡ 70 ∷ 32 ∷ (serial ++ (32 ∷ (day-field ++ (32 ∷ code-field))))
+  pub day_field : List ℕ
+  pub code_field : List ℕ
+  pub form : line ≡ 70 ∷ 32 ∷ (serial ++ (32 ∷ (day_field ++ (32 ∷ code_field))))
   pub one_field : Without 32 serial
-  pub day-is : NumberField day-field day
-  pub code_is : NumberField code-field code
+  pub day_is : NumberField day_field day
+  pub code_is : NumberField code_field code
   pub short : length line ≤ 64
 
 -- `E` (69), `S` (83) or `W` (87) and a serial, or `F`, serial, day, code
@@ -53,7 +53,7 @@ Form (show s) l = Asks 83 s l
 Form (withdraw s) l = Asks 87 s l
 Form (file s day code) l = AsksFile s day code l
 
-number_is : (f : List ℕ) → is_number f ≡ true → NumberField f (valueFrom 0 f)
+number_is : (f : List ℕ) → is_number f ≡ true → NumberField f (value_from 0 f)
 unfolding is_number
 number_is f e =
     let a = both (between 1 9 (length f)) (all (between 48 57) f) e in
@@ -61,22 +61,22 @@ number_is f e =
     record {
       some = n.0;
       most = n.1;
-      digit = every-imp (λ d. between 48 57 d ≡ true) Digit f (λ d. (between_is 48 57 d).0) (all-every (between 48 57) f a.1);
-      value = sym (value-means f);
+      digit = every_imp (λ d. between 48 57 d ≡ true) Digit f (λ d. (between_is 48 57 d).0) (all_every (between 48 57) f a.1);
+      value = sym (value_means f);
     }
 
-is-number : (f : List ℕ) (v : ℕ) → NumberField f v → is_number f ≡ true
+is_number_lem : (f : List ℕ) (v : ℕ) → NumberField f v → is_number f ≡ true
 unfolding is_number
-is-number f v m =
+is_number_lem f v m =
     all_of ((between_is 1 9 (length f)).1 (m.some, m.most))
-    (every-all (between 48 57) f (every-imp Digit (λ d. between 48 57 d ≡ true) f (λ d. (between_is 48 57 d).1) m.digit))
+    (every_all (between 48 57) f (every_imp Digit (λ d. between 48 57 d ≡ true) f (λ d. (between_is 48 57 d).1) m.digit))
 
 -- what is read has its form
 
 module _ (l : List ℕ) (short : length l ≤ 64) where
-  two-form : (a b : List ℕ) → FieldsMean 32 l (a ∷ b ∷ []) → (two a b ≡ bad) ⊎ Form (two a b) l
+  two_form : (a b : List ℕ) → FieldsMean 32 l (a ∷ b ∷ []) → (two a b ≡ bad) ⊎ Form (two a b) l
   unfolding two
-  two-form a b m =
+  two_form a b m =
       by_cases (same a (69 ∷ []))
       (λ e. rw e (inr (asks 69 e)))
       (λ e. rw e (by_cases (same a (83 ∷ []))
@@ -84,67 +84,67 @@ module _ (l : List ℕ) (short : length l ≤ 64) where
       (λ e. rw e (by_cases (same a (87 ∷ [])) (λ e. rw e (inr (asks 87 e))) (λ e. rw e (inl refl))))))
     where
       asks : (c : ℕ) → same a (c ∷ []) ≡ true → Asks c b l
-      asks c e = record { form = m.text-is ∙ ap (λ (a : List ℕ). a ++ (32 ∷ b)) (same-eq a (c ∷ []) e); one_field = m.whole.1.0; short = short }
+      asks c e = record { form = m.text_is ∙ ap (λ (a : List ℕ). a ++ (32 ∷ b)) (same_eq a (c ∷ []) e); one_field = m.whole.1.0; short = short }
 
-  four-form : (a b c d : List ℕ) → FieldsMean 32 l (a ∷ b ∷ c ∷ d ∷ []) → (four a b c d ≡ bad) ⊎ Form (four a b c d) l
+  four_form : (a b c d : List ℕ) → FieldsMean 32 l (a ∷ b ∷ c ∷ d ∷ []) → (four a b c d ≡ bad) ⊎ Form (four a b c d) l
   unfolding four
-  four-form a b c d m = by_cases (same a (70 ∷ []) && (is_number c && is_number d)) (λ e. rw e (inr (asks e))) (λ e. rw e (inl refl))
+  four_form a b c d m = by_cases (same a (70 ∷ []) && (is_number c && is_number d)) (λ e. rw e (inr (asks e))) (λ e. rw e (inl refl))
     where
-      asks : (same a (70 ∷ []) && (is_number c && is_number d)) ≡ true → AsksFile b (valueFrom 0 c) (valueFrom 0 d) l
+      asks : (same a (70 ∷ []) && (is_number c && is_number d)) ≡ true → AsksFile b (value_from 0 c) (value_from 0 d) l
       asks e =
           let h = both (same a (70 ∷ [])) (is_number c && is_number d) e in
           let k = both (is_number c) (is_number d) h.1 in
           record {
-            day-field = c;
-            code-field = d;
-            form = m.text-is ∙ ap (λ (a : List ℕ). a ++ (32 ∷ (b ++ (32 ∷ (c ++ (32 ∷ d)))))) (same-eq a (70 ∷ []) h.0);
+            day_field = c;
+            code_field = d;
+            form = m.text_is ∙ ap (λ (a : List ℕ). a ++ (32 ∷ (b ++ (32 ∷ (c ++ (32 ∷ d)))))) (same_eq a (70 ∷ []) h.0);
             one_field = m.whole.1.0;
-            day-is = number_is c k.0;
+            day_is = number_is c k.0;
             code_is = number_is d k.1;
             short = short;
           }
 
-  fields-form : (fs : List (List ℕ)) → FieldsMean 32 l fs → (fromFields fs ≡ bad) ⊎ Form (fromFields fs) l
-  unfolding fromFields
-  fields-form [] m = inl refl
-  fields-form (a ∷ []) m = inl refl
-  fields-form (a ∷ b ∷ []) m = two-form a b m
-  fields-form (a ∷ b ∷ c ∷ []) m = inl refl
-  fields-form (a ∷ b ∷ c ∷ d ∷ []) m = four-form a b c d m
-  fields-form (a ∷ b ∷ c ∷ d ∷ e ∷ fs) m = inl refl
+  fields_form : (fs : List (List ℕ)) → FieldsMean 32 l fs → (from_fields fs ≡ bad) ⊎ Form (from_fields fs) l
+  unfolding from_fields
+  fields_form [] m = inl refl
+  fields_form (a ∷ []) m = inl refl
+  fields_form (a ∷ b ∷ []) m = two_form a b m
+  fields_form (a ∷ b ∷ c ∷ []) m = inl refl
+  fields_form (a ∷ b ∷ c ∷ d ∷ []) m = four_form a b c d m
+  fields_form (a ∷ b ∷ c ∷ d ∷ e ∷ fs) m = inl refl
 
-line-form : (l : List ℕ) → (line_of l ≡ bad) ⊎ Form (line_of l) l
+line_form : (l : List ℕ) → (line_of l ≡ bad) ⊎ Form (line_of l) l
 unfolding line_of
-line-form l =
-    by_cases (ltb 64 (length l)) (λ e. rw e (inl refl)) (λ e. rw e (fields-form l (ltb-false 64 (length l) e) (fields 32 l) (fields-are 32 l)))
+line_form l =
+    by_cases (ltb 64 (length l)) (λ e. rw e (inl refl)) (λ e. rw e (fields_form l (ltb-false 64 (length l) e) (fields 32 l) (fields_are 32 l)))
 
 -- what has the form is read
 
-fields-line : (l : List ℕ) (fs : List (List ℕ)) → length l ≤ 64 → FieldsMean 32 l fs → line_of l ≡ fromFields fs
+fields_line : (l : List ℕ) (fs : List (List ℕ)) → length l ≤ 64 → FieldsMean 32 l fs → line_of l ≡ from_fields fs
 unfolding line_of
-fields-line l fs h m = rw (le-ltb 64 (length l) h, (fields-mean 32 l fs).1 m)
+fields_line l fs h m = rw (le-ltb 64 (length l) h, (fields_mean 32 l fs).1 m)
 
-asks-line : (c : ℕ) (s l : List ℕ) → (c ≡ 32 → ⊥) → Asks c s l → line_of l ≡ two (c ∷ []) s
-unfolding fromFields
-asks-line c s l n a = fields-line l ((c ∷ []) ∷ s ∷ []) a.short (record { some = omega arith; whole = ((n, tt), (a.one_field, tt)); text-is = a.form })
+asks_line : (c : ℕ) (s l : List ℕ) → (c ≡ 32 → ⊥) → Asks c s l → line_of l ≡ two (c ∷ []) s
+unfolding from_fields
+asks_line c s l n a = fields_line l ((c ∷ []) ∷ s ∷ []) a.short (record { some = omega arith; whole = ((n, tt), (a.one_field, tt)); text_is = a.form })
 
-no-space : {f : List ℕ} {v : ℕ} → NumberField f v → Without 32 f
-no-space {f} m = digits-without 32 f (omega arith) m.digit
+no_space : {f : List ℕ} {v : ℕ} → NumberField f v → Without 32 f
+no_space {f} m = digits_without 32 f (omega arith) m.digit
 
-form-line : (m : Line) (l : List ℕ) → Form m l → line_of l ≡ m
-unfolding two four fromFields
-form-line bad l f = absurd f
-form-line (enter s) l a = asks-line 69 s l (omega arith) a
-form-line (show s) l a = asks-line 83 s l (omega arith) a
-form-line (withdraw s) l a = asks-line 87 s l (omega arith) a
-form-line (file s day code) l a =
-    fields-line l ((70 ∷ []) ∷ s ∷ a.day-field ∷ a.code-field ∷ []) a.short
+form_line : (m : Line) (l : List ℕ) → Form m l → line_of l ≡ m
+unfolding two four from_fields
+form_line bad l f = absurd f
+form_line (enter s) l a = asks_line 69 s l (omega arith) a
+form_line (show s) l a = asks_line 83 s l (omega arith) a
+form_line (withdraw s) l a = asks_line 87 s l (omega arith) a
+form_line (file s day code) l a =
+    fields_line l ((70 ∷ []) ∷ s ∷ a.day_field ∷ a.code_field ∷ []) a.short
     (record {
       some = omega arith;
-      whole = ((omega arith, tt), (a.one_field, (no-space a.day-is, (no-space a.code_is, tt))));
-      text-is = a.form;
+      whole = ((omega arith, tt), (a.one_field, (no_space a.day_is, (no_space a.code_is, tt))));
+      text_is = a.form;
     })
-    ∙ rw (is-number a.day-field day a.day-is, is-number a.code-field code a.code_is, value-means a.day-field, value-means a.code-field, a.day-is.value, a.code_is.value)
+    ∙ rw (is_number_lem a.day_field day a.day_is, is_number_lem a.code_field code a.code_is, value_means a.day_field, value_means a.code_field, a.day_is.value, a.code_is.value)
 
 -- what a line asks for, by its bytes: `E` enters, `S` shows, `W` withdraws, `F` files, and a line with none of these forms is bad
 pub record LineMeans (l : List ℕ) : Type 0 where
@@ -162,38 +162,38 @@ Some (show s) = Unit {0}
 Some (withdraw s) = Unit {0}
 Some (file s day code) = Unit {0}
 
-pub not-bad : (m : Line) → Some m → m ≡ bad → ⊥
-not-bad m some e = subst Some e some
+pub not_bad : (m : Line) → Some m → m ≡ bad → ⊥
+not_bad m some e = subst Some e some
 
 form_of : (l : List ℕ) (m : Line) → (m ≡ bad → ⊥) → line_of l ≡ m → Form m l
-form_of l m some e = ⊎_elim (λ b. absurd (some (sym e ∙ b))) (λ f. subst (λ (m : Line). Form m l) e f) (line-form l)
+form_of l m some e = ⊎_elim (λ b. absurd (some (sym e ∙ b))) (λ f. subst (λ (m : Line). Form m l) e f) (line_form l)
 
-pub line-means : (l : List ℕ) → LineMeans l
-line-means l =
+pub line_means : (l : List ℕ) → LineMeans l
+line_means l =
     record {
-      enters = λ s. (form_of l (enter s) (not-bad (enter s) tt), form-line (enter s) l);
-      shows = λ s. (form_of l (show s) (not-bad (show s) tt), form-line (show s) l);
-      withdraws = λ s. (form_of l (withdraw s) (not-bad (withdraw s) tt), form-line (withdraw s) l);
-      files = λ s day code. (form_of l (file s day code) (not-bad (file s day code) tt), form-line (file s day code) l);
+      enters = λ s. (form_of l (enter s) (not_bad (enter s) tt), form_line (enter s) l);
+      shows = λ s. (form_of l (show s) (not_bad (show s) tt), form_line (show s) l);
+      withdraws = λ s. (form_of l (withdraw s) (not_bad (withdraw s) tt), form_line (withdraw s) l);
+      files = λ s day code. (form_of l (file s day code) (not_bad (file s day code) tt), form_line (file s day code) l);
       formless = (
-        λ e m f. subst (λ (m : Line). Form m l) (sym (form-line m l f) ∙ e) f,
-        λ none. ⊎_elim (λ b. b) (λ f. absurd (none (line_of l) f)) (line-form l),
+        λ e m f. subst (λ (m : Line). Form m l) (sym (form_line m l f) ∙ e) f,
+        λ none. ⊎_elim (λ b. b) (λ f. absurd (none (line_of l) f)) (line_form l),
       );
     }
 
 -- a serial field, made sixteen bytes
 module _ (f : List ℕ) where
-  padded-long : length (padded f) ≡ 16
+  padded_long : length (padded f) ≡ 16
   unfolding padded
-  padded-long = length-take-le 16 (f ++ replicate 16 0) (omega (arith, length-append f (replicate 16 0)))
+  padded_long = length-take-le 16 (f ++ replicate 16 0) (omega (arith, length-append f (replicate 16 0)))
 
-  padded-at : (i : ℕ) → i < length f → i < 16 → get_or (padded f) i 0 ≡ get_or f i 0
+  padded_at : (i : ℕ) → i < length f → i < 16 → get_or (padded f) i 0 ≡ get_or f i 0
   unfolding padded
-  padded-at i h k = get_or-take 16 (f ++ replicate 16 0) i 0 k ∙ get_or-append f (replicate 16 0) 0 i h
+  padded_at i h k = get_or-take 16 (f ++ replicate 16 0) i 0 k ∙ get_or-append f (replicate 16 0) 0 i h
 
-  padded-past : (i : ℕ) → length f ≤ i → i < 16 → get_or (padded f) i 0 ≡ 0
+  padded_past : (i : ℕ) → length f ≤ i → i < 16 → get_or (padded f) i 0 ≡ 0
   unfolding padded
-  padded-past i h k =
+  padded_past i h k =
       let d : i ≡ length f + (i - length f) = omega arith in
       get_or-take 16 (f ++ replicate 16 0) i 0 k
       ∙ ap (λ (j : ℕ). get_or (f ++ replicate 16 0) j 0) d
@@ -201,14 +201,14 @@ module _ (f : List ℕ) where
       ∙ get_or-replicate 16 (i - length f) 0 0 (omega arith)
 
   -- it is valid exactly where the field is a serial; number 4 is for every other field
-  pub field-means : (validSerial (padded f) (length f) ≡ true) ↔ SerialMeans f
-  field-means =
-      let v = valid-means (padded f) (length f) in (
+  pub field_means : (valid_serial (padded f) (length f) ≡ true) ↔ SerialMeans f
+  field_means =
+      let v = valid_means (padded f) (length f) in (
         λ e. let m = v.0 e in
-            record { some = m.some; most = m.most; each = λ i h. subst SerialByte (padded-at i h (omega (arith, m.most))) (m.each i h) },
-        λ m. v.1 (record { some = m.some; most = m.most; each = λ i h. subst SerialByte (sym (padded-at i h (omega (arith, m.most)))) (m.each i h); unused = λ i h k. padded-past i h (omega (arith, padded-long)) }),
+            record { some = m.some; most = m.most; each = λ i h. subst SerialByte (padded_at i h (omega (arith, m.most))) (m.each i h) },
+        λ m. v.1 (record { some = m.some; most = m.most; each = λ i h. subst SerialByte (sym (padded_at i h (omega (arith, m.most)))) (m.each i h); unused = λ i h k. padded_past i h (omega (arith, padded_long)) }),
       )
 
-  pub field-serial : length f ≤ 16 → take (length f) (padded f) ≡ f
+  pub field_serial : length f ≤ 16 → take (length f) (padded f) ≡ f
   unfolding padded
-  field-serial h = take-take (length f) 16 (f ++ replicate 16 0) h ∙ take-append_seam f (replicate 16 0)
+  field_serial h = take-take (length f) 16 (f ++ replicate 16 0) h ∙ take-append_seam f (replicate 16 0)

@@ -1,6 +1,6 @@
--- A refused call changes no word of any store and none of the output room, whatever it was given (`refused-open`, `refused-call`, `refused-job`): an act that
+-- A refused call changes no word of any store and none of the output room, whatever it was given (`refused_open`, `refused_call`, `refused_job_lem`): an act that
 -- is refused leaves the store as it was, and the words of a store that stays are the same words. A call that is done is not feigned: an
--- entry, a filing and a withdrawal leave other words (`done-changes`), since they change how many cards or faults are held.
+-- entry, a filing and a withdrawal leave other words (`done_changes`), since they change how many cards or faults are held.
 use Prim.Native.Nat.{ℕ}
 use mathlib.Core.Path.{◌≡◌, refl, sym, ap, ◌∙◌}
 use mathlib.Core.Logic.{⊎_elim}
@@ -13,48 +13,48 @@ use Rattle.model.specs.Shape.{need}
 use Rattle.model.specs.Layout.{shape_of, encode, decode, sound}
 use Rattle.model.specs.Lists.{total}
 use Rattle.model.specs.Model.{Card, Store, cards}
-use Rattle.model.specs.Calls.{Terms, Step, admission, swept, call, openCall}
-use Rattle.model.specs.Runs.{Act, Act.enter, Act.file, Act.show, Act.withdraw, roomOf, perform, outcome}
+use Rattle.model.specs.Calls.{Terms, Step, admission, swept, call, open_call}
+use Rattle.model.specs.Runs.{Act, Act.enter, Act.file, Act.show, Act.withdraw, room_of, perform, outcome}
 use Rattle.model.specs.Text.{lines_of}
 use Rattle.model.specs.Job.{Tally, Finished, started, job}
-use Rattle.model.proofs.Sums.{length-total}
+use Rattle.model.proofs.Sums.{length_total}
 use Rattle.model.proofs.Fair.{one, filings, Good}
 use Rattle.model.proofs.Look.{look}
-use Rattle.model.proofs.Sound.{sound-good}
-use Rattle.model.proofs.Steps.{filed-total}
-use Rattle.model.proofs.Accepted.{entered-total, withdrawn-total}
-use Rattle.model.proofs.Valid.{valid-serial}
-use Rattle.model.proofs.Cases.{enter-cases, file-cases, show-cases, withdraw-cases}
-use Rattle.model.proofs.Demand3.{good-act}
-use Rattle.model.proofs.Outcomes.{read_back, open-cases}
-use Rattle.model.proofs.Jobs.{job-cases, lines_end}
+use Rattle.model.proofs.Sound.{sound_good}
+use Rattle.model.proofs.Steps.{filed_total}
+use Rattle.model.proofs.Accepted.{entered_total, withdrawn_total}
+use Rattle.model.proofs.Valid.{valid_serial_lem}
+use Rattle.model.proofs.Cases.{enter_cases, file_cases, show_cases, withdraw_cases}
+use Rattle.model.proofs.Demand3.{good_act}
+use Rattle.model.proofs.Outcomes.{read_back, open_cases}
+use Rattle.model.proofs.Jobs.{job_cases, lines_end}
 
 -- a step that is refused leaves store and room
 abbrev pub Leaves : Store → List ℕ → Step → Type 0
 Leaves s room r = (r.answer.number ≡ 0 → ⊥) → (r.store ≡ s) × (r.room ≡ room)
 
-pub refused-act : (s : Store) → Good s → (a : Act) → Leaves s (roomOf a) (perform s a)
-refused-act s g (enter bytes n) =
-    enter-cases s g bytes n (Leaves s []) (λ v h. (refl, refl)) (λ v l h. (refl, refl)) (λ v l f h. (refl, refl)) (λ v l f h. absurd (h refl))
-refused-act s g (file bytes n day code) =
-    file-cases s g bytes n (Leaves s []) day code
+pub refused_act : (s : Store) → Good s → (a : Act) → Leaves s (room_of a) (perform s a)
+refused_act s g (enter bytes n) =
+    enter_cases s g bytes n (Leaves s []) (λ v h. (refl, refl)) (λ v l h. (refl, refl)) (λ v l f h. (refl, refl)) (λ v l f h. absurd (h refl))
+refused_act s g (file bytes n day code) =
+    file_cases s g bytes n (Leaves s []) day code
     (λ v h. (refl, refl)) (λ v w h. (refl, refl)) (λ v w l h. (refl, refl)) (λ v w l f h. (refl, refl)) (λ v w l f h. absurd (h refl))
-refused-act s g (show bytes n room) =
-    show-cases s g bytes n (Leaves s room) room (λ v h. (refl, refl)) (λ v l h. (refl, refl)) (λ v l f h. (refl, refl)) (λ v l f h. absurd (h refl))
-refused-act s g (withdraw bytes n room) =
-    withdraw-cases s g bytes n (Leaves s room) room (λ v h. (refl, refl)) (λ v l h. (refl, refl)) (λ v l f h. (refl, refl)) (λ v l f h. absurd (h refl))
+refused_act s g (show bytes n room) =
+    show_cases s g bytes n (Leaves s room) room (λ v h. (refl, refl)) (λ v l h. (refl, refl)) (λ v l f h. (refl, refl)) (λ v l f h. absurd (h refl))
+refused_act s g (withdraw bytes n room) =
+    withdraw_cases s g bytes n (Leaves s room) room (λ v h. (refl, refl)) (λ v l h. (refl, refl)) (λ v l f h. (refl, refl)) (λ v l f h. absurd (h refl))
 
-pub refused-open : (w : List ℕ) (t : Terms) → ((openCall w t).number ≡ 0 → ⊥) → (openCall w t).words ≡ w
-refused-open w t = open-cases w t (λ r. (r.number ≡ 0 → ⊥) → r.words ≡ w) (λ v h. refl) (λ v u h. refl) (λ o v n h. refl) (λ o v l h. absurd (h refl))
+pub refused_open : (w : List ℕ) (t : Terms) → ((open_call w t).number ≡ 0 → ⊥) → (open_call w t).words ≡ w
+refused_open w t = open_cases w t (λ r. (r.number ≡ 0 → ⊥) → r.words ≡ w) (λ v h. refl) (λ v u h. refl) (λ o v n h. refl) (λ o v l h. absurd (h refl))
 
-pub refused-call : (w scratch : List ℕ) (a : Act) → ((outcome w scratch a).answer.number ≡ 0 → ⊥)
-    → ((outcome w scratch a).words ≡ w) × ((outcome w scratch a).room ≡ roomOf a)
+pub refused_call : (w scratch : List ℕ) (a : Act) → ((outcome w scratch a).answer.number ≡ 0 → ⊥)
+    → ((outcome w scratch a).words ≡ w) × ((outcome w scratch a).room ≡ room_of a)
 unfolding call admission swept
-refused-call w scratch a =
+refused_call w scratch a =
     by_cases (ltb (length scratch) (need (shape_of w)))
     (λ e. rw e (λ h. (refl, refl)))
     (λ e. rw e (by_cases (sound w)
-    (λ ok. rw ok (λ h. let g = sound-good w ok in let r = refused-act (decode w) g.0 a h in (ap encode r.0 ∙ g.1, r.1)))
+    (λ ok. rw ok (λ h. let g = sound_good w ok in let r = refused_act (decode w) g.0 a h in (ap encode r.0 ∙ g.1, r.1)))
     (λ no. rw no (λ h. (refl, refl)))))
 
 -- an act that is there to change the store: any but Show
@@ -72,28 +72,28 @@ Changes s r = r.answer.number ≡ 0 → r.store ≡ s → ⊥
 weigh : (w : Card → ℕ) {s t : Store} → t ≡ s → total w (cards t) ≡ total w (cards s)
 weigh w e = ap (λ (s : Store). total w (cards s)) e
 
-done-act : (s : Store) → Good s → (a : Act) → Changing a → Changes s (perform s a)
-done-act s g (enter bytes n) c =
-    enter-cases s g bytes n (Changes s) (λ v z e. omega arith) (λ v l z e. omega arith) (λ v l f z e. omega arith)
-    (λ v l f z e. omega (arith, weigh one e, entered-total s g.fair (take n bytes) (valid-serial bytes n v) l f one))
-done-act s g (file bytes n day code) c =
-    file-cases s g bytes n (Changes s) day code
+done_act : (s : Store) → Good s → (a : Act) → Changing a → Changes s (perform s a)
+done_act s g (enter bytes n) c =
+    enter_cases s g bytes n (Changes s) (λ v z e. omega arith) (λ v l z e. omega arith) (λ v l f z e. omega arith)
+    (λ v l f z e. omega (arith, weigh one e, entered_total s g.fair (take n bytes) (valid_serial_lem bytes n v) l f one))
+done_act s g (file bytes n day code) c =
+    file_cases s g bytes n (Changes s) day code
     (λ v z e. omega arith) (λ v w z e. omega arith) (λ v w l z e. omega arith) (λ v w l f z e. omega arith)
-    (λ v w l f z e. omega (arith, weigh filings e, filed-total s g.fair (take n bytes) day code filings 1 (λ c. length-append c.faults _) l))
-done-act s g (show bytes n room) c = absurd c
-done-act s g (withdraw bytes n room) c =
-    withdraw-cases s g bytes n (Changes s) room (λ v z e. omega arith) (λ v l z e. omega arith) (λ v l f z e. omega arith)
-    (λ v l f z e. omega (arith, weigh one e, withdrawn-total s g.fair (take n bytes) one, length-total (look s (take n bytes)), l))
+    (λ v w l f z e. omega (arith, weigh filings e, filed_total s g.fair (take n bytes) day code filings 1 (λ c. length-append c.faults _) l))
+done_act s g (show bytes n room) c = absurd c
+done_act s g (withdraw bytes n room) c =
+    withdraw_cases s g bytes n (Changes s) room (λ v z e. omega arith) (λ v l z e. omega arith) (λ v l f z e. omega arith)
+    (λ v l f z e. omega (arith, weigh one e, withdrawn_total s g.fair (take n bytes) one, length_total (look s (take n bytes)), l))
 
-pub done-changes : (w scratch : List ℕ) (a : Act) → Changing a → (outcome w scratch a).answer.number ≡ 0 → (outcome w scratch a).words ≡ w → ⊥
+pub done_changes : (w scratch : List ℕ) (a : Act) → Changing a → (outcome w scratch a).answer.number ≡ 0 → (outcome w scratch a).words ≡ w → ⊥
 unfolding call admission swept
-done-changes w scratch a c =
+done_changes w scratch a c =
     by_cases (ltb (length scratch) (need (shape_of w)))
     (λ e. rw e (λ z u. omega arith))
     (λ e. rw e (by_cases (sound w)
-    (λ ok. let g = (sound-good w ok).0 in
+    (λ ok. let g = (sound_good w ok).0 in
     let s = (perform (decode w) a).store in
-    rw ok (λ z u. done-act (decode w) g a c z (sym (read_back s (good-act (decode w) g a).fair) ∙ ap decode u)))
+    rw ok (λ z u. done_act (decode w) g a c z (sym (read_back s (good_act (decode w) g a).fair) ∙ ap decode u)))
     (λ no. rw no (λ z u. omega arith))))
 
 -- a job that is refused: no line done, no byte written, and store, output and tally as they were
@@ -104,10 +104,10 @@ pub record Unchanged (w out : List ℕ) (t : Tally) (j : Finished) : Type 0 wher
   pub output : j.out ≡ out
   pub tally : j.tally ≡ t
 
-pub refused-job : (w scratch text out : List ℕ) (t : Tally)
+pub refused_job_lem : (w scratch text out : List ℕ) (t : Tally)
     → ((job w scratch text out t).number ≡ 0 → ⊥) → ((job w scratch text out t).number ≡ 10 → ⊥) → Unchanged w out t (job w scratch text out t)
-refused-job w scratch text out t =
-    job-cases w scratch text out t (λ j. (j.number ≡ 0 → ⊥) → (j.number ≡ 10 → ⊥) → Unchanged w out t j)
+refused_job_lem w scratch text out t =
+    job_cases w scratch text out t (λ j. (j.number ≡ 0 → ⊥) → (j.number ≡ 10 → ⊥) → Unchanged w out t j)
     (λ a n m. stays) (λ a b n m. stays) (λ a b c n m. stays)
     (λ a b ok n m. absurd (⊎_elim (λ e. n e.number) (λ s. m s.number) (lines_end (lines_of text) (length out) (started (decode w) t) refl)))
   where

@@ -3,18 +3,18 @@
 use Rattle.std.specs.Prelude.{ℕ}
 
 -- the fewest and the most words of a card cell, and the fewest entries of a directory
-abbrev pub leastWidth : ℕ
-leastWidth = 9
+abbrev pub least_width : ℕ
+least_width = 9
 
-abbrev pub mostWidth : ℕ
-mostWidth = 9
+abbrev pub most_width : ℕ
+most_width = 9
 
-abbrev pub leastEntries : ℕ
-leastEntries = 16
+abbrev pub least_entries : ℕ
+least_entries = 16
 
 -- the most cards that a store can hold, and a number above every whole length
-abbrev pub cardsEver : ℕ
-cardsEver = 1024
+abbrev pub cards_ever : ℕ
+cards_ever = 1024
 
 abbrev pub farthest : ℕ
 farthest = 65536

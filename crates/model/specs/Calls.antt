@@ -1,11 +1,11 @@
 -- What each call answers and leaves, for every input: a function of all that it is given. The order of refusals is read from top to bottom.
 use Rattle.std.specs.Prelude.{ℕ, ◌+◌, ◌*◌, List, [], ◌∷◌, ◌++◌, not, cond, ltb, eqb, length, take, drop, replicate}
-use Rattle.model.specs.Lists.{byDay}
+use Rattle.model.specs.Lists.{by_day}
 use Rattle.model.specs.Shape.{Shape, need}
-use Rattle.model.specs.Serial.{validSerial, validFault}
-use Rattle.model.specs.Model.{Fault, Store, held, faultsHeld, chainFor, found, comparisons, placed, removed, splitScan, contractScan, fresh, entered, filed, historyIn, withdrawn}
-use Rattle.model.specs.Numbers.{badLimits, badBounds, badLength, notSound, badSerial, badFault, alreadyHeld, notHeld, cardsFull, faultsFull, shortRoom, shortScratch}
-use Rattle.model.specs.Layout.{secondFormat, limitsOk, boundsOk, lengthFor, encode, decode, sound, shape_of}
+use Rattle.model.specs.Serial.{valid_serial, valid_fault}
+use Rattle.model.specs.Model.{Fault, Store, held, faults_held, chain_for, found, comparisons, placed, removed, split_scan, contract_scan, fresh, entered, filed, history_in, withdrawn}
+use Rattle.model.specs.Numbers.{bad_limits, bad_bounds, bad_length, not_sound, bad_serial, bad_fault, already_held, not_held, cards_full, faults_full, short_room, short_scratch}
+use Rattle.model.specs.Layout.{second_format, limits_ok, bounds_ok, length_for, encode, decode, sound, shape_of}
 
 pub record Answer : Type 0 where
   pub number : ℕ
@@ -39,7 +39,7 @@ pairs (f ∷ fs) = f.day ∷ f.code ∷ pairs fs
 
 -- what Show and Withdraw list: the faults by rising day, equal days as filed
 abbrev pub listing : List Fault → List Fault
-listing h = byDay (λ f. f.day) h
+listing h = by_day (λ f. f.day) h
 
 -- the pairs of what is listed, and no later word touched
 abbrev pub written : List Fault → List ℕ → List ℕ
@@ -54,52 +54,52 @@ pub record Step : Type 0 where
 abbrev pub stays : Answer → Store → List ℕ → Step
 stays a s room = record { answer = a; store = s; room = room }
 
-unfoldable pub enterStep : Store → List ℕ → ℕ → Step
-enterStep s bytes n =
+unfoldable pub enter_step : Store → List ℕ → ℕ → Step
+enter_step s bytes n =
     let serial = take n bytes in
-    let chain = chainFor s serial in
+    let chain = chain_for s serial in
     let k = comparisons serial chain in
-    cond (not (validSerial bytes n)) (stays (refused badSerial) s [])
-    (cond (eqb (length (found serial chain)) 1) (stays (gives alreadyHeld k 0 0) s [])
-    (cond (eqb (held s) s.shape.limit) (stays (gives cardsFull k 0 0) s [])
-    (stays (gives 0 k (splitScan (placed s serial)) 0) (entered s serial) [])))
+    cond (not (valid_serial bytes n)) (stays (refused bad_serial) s [])
+    (cond (eqb (length (found serial chain)) 1) (stays (gives already_held k 0 0) s [])
+    (cond (eqb (held s) s.shape.limit) (stays (gives cards_full k 0 0) s [])
+    (stays (gives 0 k (split_scan (placed s serial)) 0) (entered s serial) [])))
 
-unfoldable pub fileStep : Store → List ℕ → ℕ → ℕ → ℕ → Step
-fileStep s bytes n day code =
+unfoldable pub file_step : Store → List ℕ → ℕ → ℕ → ℕ → Step
+file_step s bytes n day code =
     let serial = take n bytes in
-    let chain = chainFor s serial in
+    let chain = chain_for s serial in
     let k = comparisons serial chain in
-    cond (not (validSerial bytes n)) (stays (refused badSerial) s [])
-    (cond (not (validFault day code)) (stays (refused badFault) s [])
-    (cond (eqb (length (found serial chain)) 0) (stays (gives notHeld k 0 0) s [])
-    (cond (eqb (faultsHeld s) s.shape.faultLimit) (stays (gives faultsFull k 0 0) s [])
-    (stays (gives 0 k 0 (length (historyIn s serial) + 1)) (filed s serial day code) []))))
+    cond (not (valid_serial bytes n)) (stays (refused bad_serial) s [])
+    (cond (not (valid_fault day code)) (stays (refused bad_fault) s [])
+    (cond (eqb (length (found serial chain)) 0) (stays (gives not_held k 0 0) s [])
+    (cond (eqb (faults_held s) s.shape.fault_limit) (stays (gives faults_full k 0 0) s [])
+    (stays (gives 0 k 0 (length (history_in s serial) + 1)) (filed s serial day code) []))))
 
-unfoldable pub showStep : Store → List ℕ → ℕ → List ℕ → Step
-showStep s bytes n room =
+unfoldable pub show_step : Store → List ℕ → ℕ → List ℕ → Step
+show_step s bytes n room =
     let serial = take n bytes in
-    let chain = chainFor s serial in
+    let chain = chain_for s serial in
     let k = comparisons serial chain in
-    let h = historyIn s serial in
-    cond (not (validSerial bytes n)) (stays (refused badSerial) s room)
-    (cond (eqb (length (found serial chain)) 0) (stays (gives notHeld k 0 0) s room)
-    (cond (ltb (length room) (2 * length h)) (stays (gives shortRoom k 0 (length h)) s room)
+    let h = history_in s serial in
+    cond (not (valid_serial bytes n)) (stays (refused bad_serial) s room)
+    (cond (eqb (length (found serial chain)) 0) (stays (gives not_held k 0 0) s room)
+    (cond (ltb (length room) (2 * length h)) (stays (gives short_room k 0 (length h)) s room)
     (stays (gives 0 k 0 (length h)) s (written h room))))
 
-unfoldable pub withdrawStep : Store → List ℕ → ℕ → List ℕ → Step
-withdrawStep s bytes n room =
+unfoldable pub withdraw_step : Store → List ℕ → ℕ → List ℕ → Step
+withdraw_step s bytes n room =
     let serial = take n bytes in
-    let chain = chainFor s serial in
+    let chain = chain_for s serial in
     let k = comparisons serial chain in
-    let h = historyIn s serial in
-    cond (not (validSerial bytes n)) (stays (refused badSerial) s room)
-    (cond (eqb (length (found serial chain)) 0) (stays (gives notHeld k 0 0) s room)
-    (cond (ltb (length room) (2 * length h)) (stays (gives shortRoom k 0 (length h)) s room)
-    (stays (gives 0 k (contractScan (removed s serial)) (length h)) (withdrawn s serial) (written h room))))
+    let h = history_in s serial in
+    cond (not (valid_serial bytes n)) (stays (refused bad_serial) s room)
+    (cond (eqb (length (found serial chain)) 0) (stays (gives not_held k 0 0) s room)
+    (cond (ltb (length room) (2 * length h)) (stays (gives short_room k 0 (length h)) s room)
+    (stays (gives 0 k (contract_scan (removed s serial)) (length h)) (withdrawn s serial) (written h room))))
 
 -- what every call asks before its step: 11 where the scratch is shorter than the store's shape needs, then 3 where the words are not sound, else 0
 unfoldable pub admission : List ℕ → List ℕ → ℕ
-admission w scratch = cond (ltb (length scratch) (need (shape_of w))) shortScratch (cond (sound w) 0 notSound)
+admission w scratch = cond (ltb (length scratch) (need (shape_of w))) short_scratch (cond (sound w) 0 not_sound)
 
 -- and what it leaves in the scratch: under 11 all as it was, else its first bytes zero
 unfoldable pub swept : List ℕ → List ℕ → List ℕ
@@ -124,17 +124,17 @@ pub record Terms : Type 0 where
 abbrev pub asked : ℕ → ℕ → ℕ → ℕ → Terms
 asked cards faults upper lower = record { cards = cards; faults = faults; upper = upper; lower = lower }
 
-unfoldable pub shapeFor : Terms → Shape
-shapeFor t = record { format = secondFormat; limit = t.cards; faultLimit = t.faults; upper = t.upper; lower = t.lower }
+unfoldable pub shape_for : Terms → Shape
+shape_for t = record { format = second_format; limit = t.cards; fault_limit = t.faults; upper = t.upper; lower = t.lower }
 
 -- Open tests 1, then 15, then 2
 pub record Opened : Type 0 where
   pub number : ℕ
   pub words : List ℕ
 
-unfoldable pub openCall : List ℕ → Terms → Opened
-openCall w t =
-    cond (not (limitsOk (shapeFor t))) (record { number = badLimits; words = w })
-    (cond (not (boundsOk (shapeFor t))) (record { number = badBounds; words = w })
-    (cond (not (eqb (length w) (lengthFor (shapeFor t)))) (record { number = badLength; words = w })
-    (record { number = 0; words = encode (fresh (shapeFor t)) })))
+unfoldable pub open_call : List ℕ → Terms → Opened
+open_call w t =
+    cond (not (limits_ok (shape_for t))) (record { number = bad_limits; words = w })
+    (cond (not (bounds_ok (shape_for t))) (record { number = bad_bounds; words = w })
+    (cond (not (eqb (length w) (length_for (shape_for t)))) (record { number = bad_length; words = w })
+    (record { number = 0; words = encode (fresh (shape_for t)) })))

@@ -53,5 +53,5 @@ put_all day [] ys = ys
 put_all day (x ∷ xs) ys = put_all day xs (put day x ys)
 
 -- by rising day, equal days in the order that they had
-unfoldable pub byDay {ℓ} : {A : Type ℓ} → (A → ℕ) → List A → List A
-byDay day xs = put_all day xs []
+unfoldable pub by_day {ℓ} : {A : Type ℓ} → (A → ℕ) → List A → List A
+by_day day xs = put_all day xs []

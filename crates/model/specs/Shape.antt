@@ -4,35 +4,35 @@ use Rattle.std.specs.Prelude.{ℕ, ◌+◌, ◌*◌, ◌/◌}
 pub record Shape : Type 0 where
   pub format : ℕ
   pub limit : ℕ
-  pub faultLimit : ℕ
+  pub fault_limit : ℕ
   pub upper : ℕ
   pub lower : ℕ
 
 -- the buckets of a segment, the entries of the directory, and the most buckets that they make
-abbrev pub segmentSize : ℕ
-segmentSize = 16
+abbrev pub segment_size : ℕ
+segment_size = 16
 
 unfoldable pub entries : Shape → ℕ
 entries sh = 16
 
-abbrev pub topOf : Shape → ℕ
-topOf sh = segmentSize * entries sh
+abbrev pub top_of : Shape → ℕ
+top_of sh = segment_size * entries sh
 
 -- the words of a card cell
-unfoldable pub cardWidth : Shape → ℕ
-cardWidth sh = 9
+unfoldable pub card_width : Shape → ℕ
+card_width sh = 9
 
 -- the highest card limit and fault limit
-unfoldable pub mostCards : Shape → ℕ
-mostCards sh = 1024
+unfoldable pub most_cards : Shape → ℕ
+most_cards sh = 1024
 
-unfoldable pub mostFaults : Shape → ℕ
-mostFaults sh = 2048
+unfoldable pub most_faults : Shape → ℕ
+most_faults sh = 2048
 
 -- the most faults that a store of any format can hold
-abbrev pub faultsEver : ℕ
-faultsEver = 2048
+abbrev pub faults_ever : ℕ
+faults_ever = 2048
 
 -- the bytes of scratch that the checker takes, one bit a cell
 unfoldable pub need : Shape → ℕ
-need sh = (mostCards sh + mostFaults sh) / 8
+need sh = (most_cards sh + most_faults sh) / 8

@@ -3,8 +3,8 @@
 use mathlib.Core.Path.{◌≡◌, sym, ◌∙◌}
 use mathlib.Core.List.{List}
 use Prim.Native.Nat.{ℕ}
-use Rattle.reader.specs.Depot.{wholeSize, blank, depotText, Writes}
+use Rattle.reader.specs.Depot.{whole_size, blank, depot_text, Writes}
 
 -- how many bytes are written, and all that the array holds
-pub one-text : (input : List ℕ) (m n : ℕ) (a b : List ℕ) → Writes (depotText input) (blank wholeSize) m a → Writes (depotText input) (blank wholeSize) n b → (m ≡ n) × (a ≡ b)
-one-text input m n a b p q = (p.len_is ∙ sym q.len_is, p.out-is ∙ sym q.out-is)
+pub one_text : (input : List ℕ) (m n : ℕ) (a b : List ℕ) → Writes (depot_text input) (blank whole_size) m a → Writes (depot_text input) (blank whole_size) n b → (m ≡ n) × (a ≡ b)
+one_text input m n a b p q = (p.len_is ∙ sym q.len_is, p.out_is ∙ sym q.out_is)

@@ -1,29 +1,29 @@
--- The store that `depot` opens: its limits and bounds are in range and its length is right, so Open gives a fresh store (`opens-fresh`).
+-- The store that `depot` opens: its limits and bounds are in range and its length is right, so Open gives a fresh store (`opens_fresh`).
 use Prim.Native.Nat.{ℕ}
 use mathlib.Core.Path.{◌≡◌, refl}
 use mathlib.Core.Bool.{true}
 use mathlib.Core.List.{List}
 use native.Mathlib.Omega.{arith}
 use lib.ListN.{length}
-use Rattle.rules.proofs.Tests.{not-both}
-use Rattle.model.specs.Layout.{lengthFor, limitsOk, boundsOk, shapeOk, encode}
+use Rattle.rules.proofs.Tests.{not_both}
+use Rattle.model.specs.Layout.{length_for, limits_ok, bounds_ok, shape_ok, encode}
 use Rattle.model.specs.Model.{fresh}
-use Rattle.model.specs.Calls.{shapeFor, openCall}
-use Rattle.model.proofs.Shapes.{limits-fit, bounds-fit}
-use Rattle.model.proofs.Outcomes.{terms-ok, open-cases}
-use Rattle.reader.specs.Depot.{depotTerms, depotShape, opened}
+use Rattle.model.specs.Calls.{shape_for, open_call}
+use Rattle.model.proofs.Shapes.{limits_fit_lem, bounds_fit}
+use Rattle.model.proofs.Outcomes.{terms_ok, open_cases}
+use Rattle.reader.specs.Depot.{depot_terms, depot_shape, opened}
 
-limits : limitsOk depotShape ≡ true
-unfolding shapeFor
-limits = limits-fit depotShape (omega arith) (omega arith) (omega arith) (omega arith)
+limits : limits_ok depot_shape ≡ true
+unfolding shape_for
+limits = limits_fit_lem depot_shape (omega arith) (omega arith) (omega arith) (omega arith)
 
-bounds : boundsOk depotShape ≡ true
-unfolding shapeFor
-bounds = bounds-fit depotShape (omega arith) (omega arith) (omega arith) (omega arith)
+bounds : bounds_ok depot_shape ≡ true
+unfolding shape_for
+bounds = bounds_fit depot_shape (omega arith) (omega arith) (omega arith) (omega arith)
 
-pub shape : shapeOk depotShape ≡ true
-shape = terms-ok depotTerms limits bounds
+pub shape : shape_ok depot_shape ≡ true
+shape = terms_ok depot_terms limits bounds
 
-pub opens-fresh : (w : List ℕ) → length w ≡ lengthFor depotShape → (openCall w depotTerms).words ≡ opened
+pub opens_fresh : (w : List ℕ) → length w ≡ length_for depot_shape → (open_call w depot_terms).words ≡ opened
 unfolding opened
-opens-fresh w l = open-cases w depotTerms (λ r. r.words ≡ encode (fresh depotShape)) (λ v. not-both limits v) (λ v u. not-both bounds u) (λ o v n. absurd (n l)) (λ o v e. refl)
+opens_fresh w l = open_cases w depot_terms (λ r. r.words ≡ encode (fresh depot_shape)) (λ v. not_both limits v) (λ v u. not_both bounds u) (λ o v n. absurd (n l)) (λ o v e. refl)

@@ -4,7 +4,7 @@ ghost use Rattle.model.specs.Shape.{need};
 ghost use Rattle.model.specs.Layout.{shape_of};
 ghost use Rattle.model.specs.Job.{job};
 ghost use Rattle.text.specs.Decimals.{Puts};
-ghost use Rattle.reader.specs.Depot.{opened, wholeSize, blank, nothing, closing, jobOn, depotText, Ended, Writes, Answers};
+ghost use Rattle.reader.specs.Depot.{opened, whole_size, blank, nothing, closing, job_on, depot_text, Ended, Writes, Answers};
 
 use job::{Done, Tally, answers};
 use text::{decimals, letters};
@@ -83,8 +83,8 @@ pub struct Answered {
 
 // One job on a store: its answers in the front of the output, and its closing line behind them.
 pub fn answer_on(words: &mut [u32], input: &[u8], out: &mut [u8]) -> Answered
-    requires { length out.old ≡ wholeSize }
-    ensures { Answers (jobOn words.old input.now) out.old result.number result.len words.new out.new }
+    requires { length out.old ≡ whole_size }
+    ensures { Answers (job_on words.old input.now) out.old result.number result.len words.new out.new }
 {
     let done = run_on(words, input, &mut out[..OUTPUT]);
     let number = done.number;
@@ -101,7 +101,7 @@ pub struct Text {
 
 // All that `depot` writes for an input.
 pub fn answer(input: &[u8]) -> Text
-    ensures { Writes (depotText input.now) (blank wholeSize) result.len result.bytes }
+    ensures { Writes (depot_text input.now) (blank whole_size) result.len result.bytes }
 {
     let mut words = fresh_store();
     let mut out = [0u8; WHOLE];

@@ -3,8 +3,8 @@ use Rattle.std.specs.Prelude.{◌≡◌, Bool, true, ◌&&◌, List, map, ℕ, �
 use Rattle.model.specs.Lists.{between, all, from}
 use Rattle.model.specs.Shape.{Shape}
 use Rattle.model.specs.Model.{Fault}
-use Rattle.model.specs.Layout.{toLength, toSerial, serialWords, follow, cardWord, readFault}
-use Rattle.model.specs.Meaning.{Leads, nextFault}
+use Rattle.model.specs.Layout.{to_length, to_serial, serial_words, follow, card_word, read_fault}
+use Rattle.model.specs.Meaning.{Leads, next_fault}
 
 -- the chain from cell h on comes to its end within the limit, and its cells are among 1 to the limit
 pub record Ends (limit : ℕ) (next : ℕ → ℕ) (h : ℕ) : Type 0 where
@@ -13,8 +13,8 @@ pub record Ends (limit : ℕ) (next : ℕ → ℕ) (h : ℕ) : Type 0 where
 
 -- the card in cell i has this serial length and these four words of serial
 unfoldable pub has_key : Shape → List ℕ → ℕ → ℕ → List ℕ → Bool
-has_key sh w i len key = eqb (cardWord sh w i toLength) len && all (λ k. eqb (cardWord sh w i (k + toSerial)) (get_or key k 0)) (from 0 serialWords)
+has_key sh w i len key = eqb (card_word sh w i to_length) len && all (λ k. eqb (card_word sh w i (k + to_serial)) (get_or key k 0)) (from 0 serial_words)
 
 -- the faults from fault cell h on
-unfoldable pub faultsFrom : Shape → List ℕ → ℕ → List Fault
-faultsFrom sh w h = map (readFault sh w) (follow sh.faultLimit (nextFault sh w) h)
+unfoldable pub faults_from : Shape → List ℕ → ℕ → List Fault
+faults_from sh w h = map (read_fault sh w) (follow sh.fault_limit (next_fault sh w) h)

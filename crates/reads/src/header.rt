@@ -1,8 +1,8 @@
 // The header: its words one by one, and all that a call needs of it read once, by value.
 ghost use Rattle.std.specs.Prelude.{◌≡◌, true, ◌≤◌, ◌<◌, length, get_or};
-ghost use Rattle.model.specs.Layout.{directoryAt, shape_of, sound};
+ghost use Rattle.model.specs.Layout.{directory_at, shape_of, sound};
 ghost use Rattle.reads.specs.Cells.{shape_by, Read};
-ghost use Rattle.reads.specs.Front.{limitsFit, offsetsFit};
+ghost use Rattle.reads.specs.Front.{limits_fit, offsets_fit};
 
 use crate::layout;
 use crate::layout::Shape;
@@ -49,7 +49,7 @@ fn wide(x: u32) -> usize
 
 // The shape that words tell.
 pub fn shape_of(w: &[u32]) -> Shape
-    requires { directoryAt ≤ length w.now }
+    requires { directory_at ≤ length w.now }
     ensures { shape_by result ≡ shape_of w.now }
 {
     let format = word(w, layout::FORMAT_AT);
@@ -65,7 +65,7 @@ pub fn shape_of(w: &[u32]) -> Shape
 
 // The header, once the shape, the length and the offsets are right: the parts begin where its own words say.
 pub fn read(w: &[u32]) -> Header
-    requires { (limitsFit w.now ≡ true) × (offsetsFit w.now ≡ true) }
+    requires { (limits_fit w.now ≡ true) × (offsets_fit w.now ≡ true) }
     ensures { Read w.now result }
 {
     let s = shape_of(w);

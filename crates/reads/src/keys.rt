@@ -1,8 +1,8 @@
 // Serials compared by their four words and their length, from the last byte to the first: one maker's serials begin alike.
 ghost use Rattle.std.specs.Prelude.{◌≡◌, ◌+◌, ◌*◌, ◌≤◌, ◌<◌};
-ghost use Rattle.model.specs.Serial.{mostBytes};
-ghost use Rattle.model.specs.Layout.{toSerial, serialWords, cardWord};
-ghost use Rattle.reads.specs.Cells.{shapeIn, Sized, word_bytes, key_at, bytes_at, sameKey};
+ghost use Rattle.model.specs.Serial.{most_bytes};
+ghost use Rattle.model.specs.Layout.{to_serial, serial_words, card_word};
+ghost use Rattle.reads.specs.Cells.{shape_in, Sized, word_bytes, key_at, bytes_at, same_key};
 ghost use Rattle.reads.specs.Chains.{has_key};
 
 use crate::header::Header;
@@ -13,7 +13,7 @@ const WORD_BYTES: usize = rules::SERIAL / layout::SERIAL_WORDS;
 
 // The word of a serial of this length that holds its last byte. Of any other length it is one of the four, too.
 pub fn last_word(len: u32) -> usize
-    ensures { (result < serialWords) × (1 ≤ len → len ≤ mostBytes → (word_bytes * result < len) × (len ≤ word_bytes * (result + 1))) }
+    ensures { (result < serial_words) × (1 ≤ len → len ≤ most_bytes → (word_bytes * result < len) × (len ≤ word_bytes * (result + 1))) }
 {
     (len as usize + rules::SERIAL - 1) / WORD_BYTES % layout::SERIAL_WORDS
 }
@@ -21,8 +21,8 @@ pub fn last_word(len: u32) -> usize
 // Word `last` of the serial in cell i, read in the words from that of the first cell on: a loop along a chain then keeps one address for
 // it, and another for the rest of the cells.
 pub fn end_word(w: &[u32], h: Header, i: u32, last: usize) -> u32
-    requires { Sized w.now h × (1 ≤ i) × (i ≤ h.cards) × (last < serialWords) }
-    ensures { result ≡ cardWord (shapeIn h) w.now i (last + toSerial) }
+    requires { Sized w.now h × (1 ≤ i) × (i ≤ h.cards) × (last < serial_words) }
+    ensures { result ≡ card_word (shape_in h) w.now i (last + to_serial) }
 {
     let first = h.base + (last + layout::TO_SERIAL);
     let cell = (i - 1) as usize;
@@ -33,7 +33,7 @@ pub fn end_word(w: &[u32], h: Header, i: u32, last: usize) -> u32
 // The four words of the serial in cell i.
 pub fn key_at(w: &[u32], h: Header, i: u32) -> [u32; layout::SERIAL_WORDS]
     requires { Sized w.now h × (1 ≤ i) × (i ≤ h.cards) }
-    ensures { result ≡ key_at (shapeIn h) w.now i }
+    ensures { result ≡ key_at (shape_in h) w.now i }
 {
     let a = cells::card_word(w, h, i, layout::TO_SERIAL);
     let b = cells::card_word(w, h, i, layout::TO_SERIAL + 1);
@@ -45,7 +45,7 @@ pub fn key_at(w: &[u32], h: Header, i: u32) -> [u32; layout::SERIAL_WORDS]
 // The sixteen bytes of the card in cell i.
 pub fn bytes_at(w: &[u32], h: Header, i: u32) -> [u8; 16]
     requires { Sized w.now h × (1 ≤ i) × (i ≤ h.cards) }
-    ensures { result ≡ bytes_at (shapeIn h) w.now i }
+    ensures { result ≡ bytes_at (shape_in h) w.now i }
 {
     let key = key_at(w, h, i);
     serial::unpack(key[0], key[1], key[2], key[3])
@@ -54,7 +54,7 @@ pub fn bytes_at(w: &[u32], h: Header, i: u32) -> [u8; 16]
 // Whether card i has a serial of this length and these four words: all bytes are compared and the length, never codes.
 pub fn has_key(w: &[u32], h: Header, i: u32, len: u32, key: [u32; layout::SERIAL_WORDS]) -> bool
     requires { Sized w.now h × (1 ≤ i) × (i ≤ h.cards) }
-    ensures { result ≡ has_key (shapeIn h) w.now i len key }
+    ensures { result ≡ has_key (shape_in h) w.now i len key }
 {
     let mut k: usize = layout::SERIAL_WORDS;
     while k > 0 {
@@ -69,7 +69,7 @@ pub fn has_key(w: &[u32], h: Header, i: u32, len: u32, key: [u32; layout::SERIAL
 // Whether two cards have the same serial: its length and its four words. The word that holds the last byte tells most of them apart.
 pub fn same_key(w: &[u32], h: Header, i: u32, j: u32) -> bool
     requires { Sized w.now h × (1 ≤ i) × (i ≤ h.cards) × (1 ≤ j) × (j ≤ h.cards) }
-    ensures { result ≡ sameKey (shapeIn h) w.now i j }
+    ensures { result ≡ same_key (shape_in h) w.now i j }
 {
     let len = cells::card_word(w, h, j, layout::TO_LENGTH);
     let last = last_word(len);

@@ -1,9 +1,9 @@
 // Layout: counts, offsets, and the lengths and limits of a shape. Each number of it has its name here, once.
 ghost use Rattle.std.specs.Prelude.{◌≡◌, true};
 ghost use Rattle.model.specs.Lists.{between};
-ghost use Rattle.model.specs.Shape.{topOf, cardWidth, mostCards, mostFaults, need};
-ghost use Rattle.model.specs.Layout.{segmentsAt, cardsAt, faultsAt, lengthFor, limitsOk, boundsOk, formatOk, boundsWord, ruleWord, upperBy, lowerBy, shapeOk, shape_of};
-ghost use Rattle.model.specs.Calls.{shapeFor, asked};
+ghost use Rattle.model.specs.Shape.{top_of, card_width, most_cards, most_faults, need};
+ghost use Rattle.model.specs.Layout.{segments_at, cards_at, faults_at, length_for, limits_ok, bounds_ok, format_ok, bounds_word, rule_word, upper_by, lower_by, shape_ok, shape_of};
+ghost use Rattle.model.specs.Calls.{shape_for, asked};
 ghost use Rattle.reads.specs.Cells.{shape_by};
 
 // The card limit C is 1 to 1,024; the fault limit F 1 to 2,048.
@@ -127,7 +127,7 @@ pub struct Shape {
 
 // The shape that Open makes.
 pub fn shape_for(cards: u32, faults: u32, upper: u32, lower: u32) -> Shape
-    ensures { shape_by result ≡ shapeFor (asked cards faults upper lower) }
+    ensures { shape_by result ≡ shape_for (asked cards faults upper lower) }
 {
     Shape {
         format: SECOND_FORMAT,
@@ -140,7 +140,7 @@ pub fn shape_for(cards: u32, faults: u32, upper: u32, lower: u32) -> Shape
 
 // The bounds that a format and a word 14 tell.
 pub fn upper_by(format: u32, word: u32) -> u32
-    ensures { result ≡ upperBy format word }
+    ensures { result ≡ upper_by format word }
 {
     if format == FIRST_FORMAT {
         FIRST_UPPER
@@ -150,7 +150,7 @@ pub fn upper_by(format: u32, word: u32) -> u32
 }
 
 pub fn lower_by(format: u32, word: u32) -> u32
-    ensures { result ≡ lowerBy format word }
+    ensures { result ≡ lower_by format word }
 {
     if format == FIRST_FORMAT {
         FIRST_LOWER
@@ -168,7 +168,7 @@ pub fn within(lo: u32, hi: u32, x: u32) -> bool
 
 // Format 2 has any bounds, format 1 has 4 and 2.
 fn format_ok(s: Shape) -> bool
-    ensures { result ≡ formatOk (shape_by s) }
+    ensures { result ≡ format_ok (shape_by s) }
 {
     let format = s.format;
     let upper = s.upper;
@@ -187,20 +187,20 @@ fn format_ok(s: Shape) -> bool
 
 // The highest limits.
 fn most_cards(s: Shape) -> u32
-    ensures { result ≡ mostCards (shape_by s) }
+    ensures { result ≡ most_cards (shape_by s) }
 {
     MOST_CARDS
 }
 
 fn most_faults(s: Shape) -> u32
-    ensures { result ≡ mostFaults (shape_by s) }
+    ensures { result ≡ most_faults (shape_by s) }
 {
     MOST_FAULTS
 }
 
 // C and F are 1 to the highest of the format.
 pub fn limits_ok(s: Shape) -> bool
-    ensures { result ≡ limitsOk (shape_by s) }
+    ensures { result ≡ limits_ok (shape_by s) }
 {
     let c = s.cards;
     let f = s.faults;
@@ -212,7 +212,7 @@ pub fn limits_ok(s: Shape) -> bool
 
 // U is 2 to 10, L at least 1 and at most the half of U; twice L might not fit a word.
 pub fn bounds_ok(s: Shape) -> bool
-    ensures { result ≡ boundsOk (shape_by s) }
+    ensures { result ≡ bounds_ok (shape_by s) }
 {
     let u = s.upper;
     let l = s.lower;
@@ -231,7 +231,7 @@ pub fn need(words: &[u32]) -> usize
 
 // The shapes that there are.
 pub fn shape_ok(s: Shape) -> bool
-    ensures { result ≡ shapeOk (shape_by s) }
+    ensures { result ≡ shape_ok (shape_by s) }
 {
     if !format_ok(s) {
         return false;
@@ -244,32 +244,32 @@ pub fn shape_ok(s: Shape) -> bool
 
 // The most buckets, and the words of a card cell.
 pub fn top_of(s: Shape) -> u32
-    ensures { result ≡ topOf (shape_by s) }
+    ensures { result ≡ top_of (shape_by s) }
 {
     TOP
 }
 
 pub fn card_width(s: Shape) -> usize
-    ensures { result ≡ cardWidth (shape_by s) }
+    ensures { result ≡ card_width (shape_by s) }
 {
     CARD_WIDTH
 }
 
 // Where the segments, the card cells and the fault cells begin, and the whole length.
 pub fn segments_at(s: Shape) -> usize
-    ensures { result ≡ segmentsAt (shape_by s) }
+    ensures { result ≡ segments_at (shape_by s) }
 {
     SEGMENTS_AT
 }
 
 pub fn cards_at(s: Shape) -> usize
-    ensures { result ≡ cardsAt (shape_by s) }
+    ensures { result ≡ cards_at (shape_by s) }
 {
     CARDS_AT
 }
 
 pub fn faults_at(s: Shape) -> usize
-    ensures { result ≡ faultsAt (shape_by s) }
+    ensures { result ≡ faults_at (shape_by s) }
 {
     let base = cards_at(s);
     let width = card_width(s);
@@ -277,7 +277,7 @@ pub fn faults_at(s: Shape) -> usize
 }
 
 pub fn length_for(s: Shape) -> usize
-    ensures { result ≡ lengthFor (shape_by s) }
+    ensures { result ≡ length_for (shape_by s) }
 {
     let behind = faults_at(s);
     behind + FAULT_WIDTH * (s.faults as usize)
@@ -285,8 +285,8 @@ pub fn length_for(s: Shape) -> usize
 
 // Words 14 and 15.
 pub fn bounds_word(s: Shape) -> u32
-    requires { shapeOk (shape_by s) ≡ true }
-    ensures { result ≡ boundsWord (shape_by s) }
+    requires { shape_ok (shape_by s) ≡ true }
+    ensures { result ≡ bounds_word (shape_by s) }
 {
     let format = s.format;
     let upper = s.upper;
@@ -299,7 +299,7 @@ pub fn bounds_word(s: Shape) -> u32
 }
 
 pub fn rule_word(s: Shape) -> u32
-    ensures { result ≡ ruleWord (shape_by s) }
+    ensures { result ≡ rule_word (shape_by s) }
 {
     0
 }

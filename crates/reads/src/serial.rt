@@ -1,9 +1,9 @@
 // Serials and faults: which are valid, and a serial's sixteen bytes packed into and out of four words.
 ghost use Rattle.std.specs.Prelude.{◌≡◌, ◌≤◌, ◌/◌, ◌%◌, ◌^◌, eqb};
 ghost use Rattle.model.specs.Lists.{all};
-ghost use Rattle.model.specs.Serial.{allowed, validSerial, validFault};
+ghost use Rattle.model.specs.Serial.{allowed, valid_serial, valid_fault};
 ghost use Rattle.model.specs.Layout.{packed};
-ghost use Rattle.reads.specs.Cells.{packedAll, unpackedAll, fourBytes};
+ghost use Rattle.reads.specs.Cells.{packed_all, unpacked_all, four_bytes};
 
 use crate::layout;
 
@@ -31,7 +31,7 @@ pub fn is_allowed(b: u8) -> bool
 
 // A day, 1 to 65,535, and a code, 1 to 9,999.
 pub fn valid_fault(day: u32, code: u32) -> bool
-    ensures { result ≡ validFault day code }
+    ensures { result ≡ valid_fault day code }
 {
     if !layout::within(1, 65535, day) {
         return false;
@@ -69,7 +69,7 @@ fn all_zero(bytes: &[u8]) -> bool
 
 // Sixteen bytes and a length, as a serial travels: allowed up to the length, zero from there on.
 pub fn valid_serial(serial: [u8; 16], len: usize) -> bool
-    ensures { result ≡ validSerial serial len }
+    ensures { result ≡ valid_serial serial len }
 {
     if len < 1 {
         return false;
@@ -85,7 +85,7 @@ pub fn valid_serial(serial: [u8; 16], len: usize) -> bool
 
 // Four bytes as a word, the first highest.
 fn word4(a: u8, b: u8, c: u8, d: u8) -> u32
-    ensures { result ≡ fourBytes a b c d }
+    ensures { result ≡ four_bytes a b c d }
 {
     ((a as u32 * 256 + b as u32) * 256 + c as u32) * 256 + d as u32
 }
@@ -100,7 +100,7 @@ fn word_of(s: [u8; 16], k: usize) -> u32
 
 // The four words of a serial's sixteen bytes.
 pub fn pack(s: [u8; 16]) -> [u32; layout::SERIAL_WORDS]
-    ensures { result ≡ packedAll s }
+    ensures { result ≡ packed_all s }
 {
     let a = word_of(s, 0);
     let b = word_of(s, 4);
@@ -136,7 +136,7 @@ fn byte0(x: u32) -> u8
 
 // The sixteen bytes of four words.
 pub fn unpack(a: u32, b: u32, c: u32, d: u32) -> [u8; 16]
-    ensures { result ≡ unpackedAll a b c d }
+    ensures { result ≡ unpacked_all a b c d }
 {
     [
         byte3(a),

@@ -7,9 +7,9 @@ use Rattle.model.specs.Report.{Reported}
 use Rattle.store.specs.declared.answer.Wrote.{Wrote}
 use Rattle.report.specs.Reports.{Reports}
 
-pub one-report : (o : Reported) (a b : Wrote) (out out' scratch scratch' : List ℕ) → Reports o a out scratch → Reports o b out' scratch' → (a ≡ b) × (out ≡ out') × (scratch ≡ scratch')
-one-report o a b out out' scratch scratch' p q = (
-  λ i. record { number = (p.answer.number_is ∙ sym q.answer.number_is) i; count = (p.answer.count-is ∙ sym q.answer.count-is) i },
-  p.out-is ∙ sym q.out-is,
-  p.scratch-is ∙ sym q.scratch-is,
+pub one_report : (o : Reported) (a b : Wrote) (out out' scratch scratch' : List ℕ) → Reports o a out scratch → Reports o b out' scratch' → (a ≡ b) × (out ≡ out') × (scratch ≡ scratch')
+one_report o a b out out' scratch scratch' p q = (
+  λ i. record { number = (p.answer.number_is ∙ sym q.answer.number_is) i; count = (p.answer.count_is ∙ sym q.answer.count_is) i },
+  p.out_is ∙ sym q.out_is,
+  p.scratch_is ∙ sym q.scratch_is,
 )

@@ -10,235 +10,235 @@ use borrow.Author.Tests.{leb-true, leb-false, le-leb, lt-leb, eqb-true, ne_eqb}
 use lib.Dec.{leb, eqb}
 use lib.ListN.{length, take, drop, get_or, replicate, drop_of_length-le, length-append, length-drop, length-take}
 use lib.Seq.{take_all, take-nil, drop-nil, drop-cons, drop-drop, get_or-take}
-use Rattle.rules.proofs.Tests.{by_cases, both, and-true}
+use Rattle.rules.proofs.Tests.{by_cases, both, and_true}
 use Rattle.model.specs.Lists.{all, total}
-use Rattle.model.specs.Shape.{faultsEver, need}
-use Rattle.model.specs.Bounds.{cardsEver}
+use Rattle.model.specs.Shape.{faults_ever, need}
+use Rattle.model.specs.Bounds.{cards_ever}
 use Rattle.model.specs.Layout.{shape_of, sound}
 use Rattle.model.specs.Calls.{cleaned}
-use Rattle.model.specs.Report.{mostStores, pieces, runSound, mostNeed, need_of, historiesIn, allHistories}
-use Rattle.model.proofs.Sums.{total-append}
-use Rattle.model.proofs.ReportCalls.{pieces-count}
+use Rattle.model.specs.Report.{most_stores, pieces, run_sound, most_need, need_of, histories_in, all_histories}
+use Rattle.model.proofs.Sums.{total_append}
+use Rattle.model.proofs.ReportCalls.{pieces_count}
 use Rattle.report.specs.declared.rows.Totals.{Totals}
-use Rattle.report.specs.Rows.{blank, noteAll, Takes, Noted}
-use Rattle.report.specs.Runs.{storeAt, soundAt, Clean, NotedAll}
-use Rattle.report.proofs.RowLaws.{histories-append, takes-less, takes_all, takes-blank}
-use Rattle.report.proofs.SoundRuns.{sound-codes, run-cards, run-faults}
+use Rattle.report.specs.Rows.{blank, note_all, Takes, Noted}
+use Rattle.report.specs.Runs.{store_at, sound_at, Clean, NotedAll}
+use Rattle.report.proofs.RowLaws.{histories_append, takes_less, takes_all, takes_blank}
+use Rattle.report.proofs.SoundRuns.{sound_codes, run_cards, run_faults}
 
 -- a clean scratch
 
-zeros-less : (m n : ℕ) (s : List ℕ) → m ≤ n → n ≤ length s → replicate n 0 ++ drop n s ≡ s → replicate m 0 ++ drop m s ≡ s
-zeros-less zero n s h l e = refl
-zeros-less (suc m) zero s h l e = absurd (omega arith)
-zeros-less (suc m) (suc n) [] h l e = absurd (omega arith)
-zeros-less (suc m) (suc n) (x ∷ s) h l e =
-    λ i. ap (λ (l : List ℕ). get_or l 0 0) e i ∷ zeros-less m n s (omega arith) (omega arith) (ap (drop 1) e) i
+zeros_less : (m n : ℕ) (s : List ℕ) → m ≤ n → n ≤ length s → replicate n 0 ++ drop n s ≡ s → replicate m 0 ++ drop m s ≡ s
+zeros_less zero n s h l e = refl
+zeros_less (suc m) zero s h l e = absurd (omega arith)
+zeros_less (suc m) (suc n) [] h l e = absurd (omega arith)
+zeros_less (suc m) (suc n) (x ∷ s) h l e =
+    λ i. ap (λ (l : List ℕ). get_or l 0 0) e i ∷ zeros_less m n s (omega arith) (omega arith) (ap (drop 1) e) i
 
-pub clean-less : {m n : ℕ} {scratch : List ℕ} → m ≤ n → Clean n scratch → Clean m scratch
+pub clean_less : {m n : ℕ} {scratch : List ℕ} → m ≤ n → Clean n scratch → Clean m scratch
 unfolding cleaned
-clean-less {m} {n} {scratch} h c = record { long = omega (arith, c.long); zero = zeros-less m n scratch h c.long c.zero }
+clean_less {m} {n} {scratch} h c = record { long = omega (arith, c.long); zero = zeros_less m n scratch h c.long c.zero }
 
 -- the stores that are left at a place
-abbrev pub storesLeft : List ℕ → List ℕ → ℕ → ℕ → List (List ℕ)
-storesLeft run ns at i = pieces (drop at run) (drop i ns)
+abbrev pub stores_left : List ℕ → List ℕ → ℕ → ℕ → List (List ℕ)
+stores_left run ns at i = pieces (drop at run) (drop i ns)
 
 module _ (run ns : List ℕ) (at i : ℕ) (h : i < length ns) where
-  lengths-on : drop i ns ≡ get_or ns i 0 ∷ drop (suc i) ns
-  lengths-on = drop-cons ns i 0 h
+  lengths_on : drop i ns ≡ get_or ns i 0 ∷ drop (suc i) ns
+  lengths_on = drop-cons ns i 0 h
 
-  stores-on : storesLeft run ns at i ≡ storeAt run at (get_or ns i 0) ∷ storesLeft run ns (at + get_or ns i 0) (suc i)
+  stores_on : stores_left run ns at i ≡ store_at run at (get_or ns i 0) ∷ stores_left run ns (at + get_or ns i 0) (suc i)
   unfolding pieces
-  stores-on =
-      ap (pieces (drop at run)) lengths-on
-      ∙ ap (λ (l : List ℕ). storeAt run at (get_or ns i 0) ∷ pieces l (drop (suc i) ns)) (drop-drop (get_or ns i 0) at run)
+  stores_on =
+      ap (pieces (drop at run)) lengths_on
+      ∙ ap (λ (l : List ℕ). store_at run at (get_or ns i 0) ∷ pieces l (drop (suc i) ns)) (drop-drop (get_or ns i 0) at run)
 
 -- the words that the code lends of it
-pub lent-words : (run : List ℕ) (at n : ℕ) → take (at + n - at) (drop at run) ≡ storeAt run at n
-lent-words run at n = let e : at + n - at ≡ n = omega arith in ap (λ (k : ℕ). take k (drop at run)) e
+pub lent_words : (run : List ℕ) (at n : ℕ) → take (at + n - at) (drop at run) ≡ store_at run at n
+lent_words run at n = let e : at + n - at ≡ n = omega arith in ap (λ (k : ℕ). take k (drop at run)) e
 
 -- the test
 
 pub record Testing (run ns scratch₀ scratch : List ℕ) (at i : ℕ) : Type 0 where
   pub inside : at ≤ length run
-  pub clean : Clean (mostNeed (storesLeft run ns at i)) scratch
+  pub clean : Clean (most_need (stores_left run ns at i)) scratch
   pub kept : scratch ≡ scratch₀
-  pub same : runSound run ns ≡ (eqb (at + total (λ n. n) (drop i ns)) (length run) && all sound (storesLeft run ns at i))
+  pub same : run_sound run ns ≡ (eqb (at + total (λ n. n) (drop i ns)) (length run) && all sound (stores_left run ns at i))
 
-pub testing-start : (run ns scratch : List ℕ) → length ns ≤ mostStores → Clean (need_of run ns) scratch → Testing run ns scratch scratch 0 0
-unfolding need_of runSound
-testing-start run ns scratch l c =
+pub testing_start : (run ns scratch : List ℕ) → length ns ≤ most_stores → Clean (need_of run ns) scratch → Testing run ns scratch scratch 0 0
+unfolding need_of run_sound
+testing_start run ns scratch l c =
     let e : total (λ n. n) ns ≡ 0 + total (λ n. n) ns = omega arith in
     record {
       inside = omega arith;
-      clean = subst (λ (k : List ℕ). Clean (mostNeed (pieces run k)) scratch) (take_all mostStores ns l) c;
+      clean = subst (λ (k : List ℕ). Clean (most_need (pieces run k)) scratch) (take_all most_stores ns l) c;
       kept = refl;
       same = ap (λ (k : ℕ). eqb k (length run) && all sound (pieces run ns)) e;
     }
 
-and-false : (a : Bool) → (a && false) ≡ false
-and-false true = refl
-and-false false = refl
+and_false : (a : Bool) → (a && false) ≡ false
+and_false true = refl
+and_false false = refl
 
 module _ {run ns scratch₀ scratch : List ℕ} {at i : ℕ} (a : Testing run ns scratch₀ scratch at i) where
-  pub testing-end : length ns ≤ i → eqb at (length run) ≡ runSound run ns
+  pub testing_end : length ns ≤ i → eqb at (length run) ≡ run_sound run ns
   unfolding pieces
-  testing-end h =
+  testing_end h =
       let z : drop i ns ≡ [] = drop_of_length-le ns h in
       let e : at + 0 ≡ at = omega arith in
-      sym (a.same ∙ ap (λ (l : List ℕ). eqb (at + total (λ n. n) l) (length run) && all sound (pieces (drop at run) l)) z ∙ and-true (eqb (at + 0) (length run)) ∙ ap (λ (k : ℕ). eqb k (length run)) e)
+      sym (a.same ∙ ap (λ (l : List ℕ). eqb (at + total (λ n. n) l) (length run) && all sound (pieces (drop at run) l)) z ∙ and_true (eqb (at + 0) (length run)) ∙ ap (λ (k : ℕ). eqb k (length run)) e)
 
   module _ (h : i < length ns) where
     abbrev n : ℕ
     n = get_or ns i 0
 
     -- the store at hand and those behind it
-    same-on : runSound run ns ≡ (eqb (at + (n + total (λ n. n) (drop (suc i) ns))) (length run) && (sound (storeAt run at n) && all sound (storesLeft run ns (at + n) (suc i))))
-    same-on = a.same ∙ (λ j. eqb (at + total (λ n. n) (lengths-on run ns at i h j)) (length run) && all sound (stores-on run ns at i h j))
+    same_on : run_sound run ns ≡ (eqb (at + (n + total (λ n. n) (drop (suc i) ns))) (length run) && (sound (store_at run at n) && all sound (stores_left run ns (at + n) (suc i))))
+    same_on = a.same ∙ (λ j. eqb (at + total (λ n. n) (lengths_on run ns at i h j)) (length run) && all sound (stores_on run ns at i h j))
 
-    needs-on : mostNeed (storesLeft run ns at i) ≡ max (need (shape_of (storeAt run at n))) (mostNeed (storesLeft run ns (at + n) (suc i)))
-    unfolding mostNeed
-    needs-on = ap mostNeed (stores-on run ns at i h)
+    needs_on : most_need (stores_left run ns at i) ≡ max (need (shape_of (store_at run at n))) (most_need (stores_left run ns (at + n) (suc i)))
+    unfolding most_need
+    needs_on = ap most_need (stores_on run ns at i h)
 
-    pub testing-clean : Clean (need (shape_of (storeAt run at n))) scratch
-    testing-clean = clean-less (omega (arith, needs-on)) a.clean
+    pub testing_clean : Clean (need (shape_of (store_at run at n))) scratch
+    testing_clean = clean_less (omega (arith, needs_on)) a.clean
 
-    pub testing-stop : soundAt run at n ≡ false → false ≡ runSound run ns
-    unfolding soundAt
-    testing-stop e =
+    pub testing_stop : sound_at run at n ≡ false → false ≡ run_sound run ns
+    unfolding sound_at
+    testing_stop e =
         by_cases (leb n (length run - at))
         (λ t. let all_in = eqb (at + (n + total (λ n. n) (drop (suc i) ns))) (length run) in
-        sym (same-on ∙ ap (λ (b : Bool). all_in && (b && all sound (storesLeft run ns (at + n) (suc i)))) (sym (ap (λ (b : Bool). b && sound (storeAt run at n)) t) ∙ e) ∙ and-false all_in))
-        (λ t. sym (same-on ∙ ap (λ (b : Bool). b && (sound (storeAt run at n) && all sound (storesLeft run ns (at + n) (suc i)))) (ne_eqb (at + (n + total (λ n. n) (drop (suc i) ns))) (length run) (λ q. omega (arith, leb-false n (length run - at) t, a.inside)))))
+        sym (same_on ∙ ap (λ (b : Bool). all_in && (b && all sound (stores_left run ns (at + n) (suc i)))) (sym (ap (λ (b : Bool). b && sound (store_at run at n)) t) ∙ e) ∙ and_false all_in))
+        (λ t. sym (same_on ∙ ap (λ (b : Bool). b && (sound (store_at run at n) && all sound (stores_left run ns (at + n) (suc i)))) (ne_eqb (at + (n + total (λ n. n) (drop (suc i) ns))) (length run) (λ q. omega (arith, leb-false n (length run - at) t, a.inside)))))
 
-    pub testing-next : {scratch' : List ℕ} → soundAt run at n ≡ true → scratch' ≡ scratch → Testing run ns scratch₀ scratch' (at + n) (i + 1)
-    unfolding soundAt
-    testing-next {scratch'} e k =
-        let t = both (leb n (length run - at)) (sound (storeAt run at n)) e in
+    pub testing_next : {scratch' : List ℕ} → sound_at run at n ≡ true → scratch' ≡ scratch → Testing run ns scratch₀ scratch' (at + n) (i + 1)
+    unfolding sound_at
+    testing_next {scratch'} e k =
+        let t = both (leb n (length run - at)) (sound (store_at run at n)) e in
         let p : i + 1 ≡ suc i = omega arith in
         let q : at + (n + total (λ n. n) (drop (suc i) ns)) ≡ at + n + total (λ n. n) (drop (suc i) ns) = omega arith in
         record {
           inside = omega (arith, leb-true n (length run - at) t.0, a.inside);
-          clean = rw (k, p) (clean-less (omega (arith, needs-on)) a.clean);
+          clean = rw (k, p) (clean_less (omega (arith, needs_on)) a.clean);
           kept = k ∙ a.kept;
-          same = rw p (same-on ∙ (λ j. eqb (q j) (length run) && (t.1 j && all sound (storesLeft run ns (at + n) (suc i)))));
+          same = rw p (same_on ∙ (λ j. eqb (q j) (length run) && (t.1 j && all sound (stores_left run ns (at + n) (suc i)))));
         }
 
 -- the store at hand, by the test of its length and of its words
 
-pub short-at : (run : List ℕ) (at n : ℕ) → length run - at < n → false ≡ soundAt run at n
-unfolding soundAt
-short-at run at n h = sym (ap (λ (b : Bool). b && sound (storeAt run at n)) (lt-leb n (length run - at) h))
+pub short_at : (run : List ℕ) (at n : ℕ) → length run - at < n → false ≡ sound_at run at n
+unfolding sound_at
+short_at run at n h = sym (ap (λ (b : Bool). b && sound (store_at run at n)) (lt-leb n (length run - at) h))
 
-pub whole-at : (run : List ℕ) (at n : ℕ) → n ≤ length run - at → sound (storeAt run at n) ≡ soundAt run at n
-unfolding soundAt
-whole-at run at n h = sym (ap (λ (b : Bool). b && sound (storeAt run at n)) (le-leb n (length run - at) h))
+pub whole_at : (run : List ℕ) (at n : ℕ) → n ≤ length run - at → sound (store_at run at n) ≡ sound_at run at n
+unfolding sound_at
+whole_at run at n h = sym (ap (λ (b : Bool). b && sound (store_at run at n)) (le-leb n (length run - at) h))
 
 -- the scratch
 
-needs-floor : (ws : List (List ℕ)) → need (shape_of []) ≤ mostNeed ws
-unfolding mostNeed
-needs-floor [] = omega arith
-needs-floor (w ∷ ws) = omega (arith, needs-floor ws)
+needs_floor : (ws : List (List ℕ)) → need (shape_of []) ≤ most_need ws
+unfolding most_need
+needs_floor [] = omega arith
+needs_floor (w ∷ ws) = omega (arith, needs_floor ws)
 
 pub record Needing (run ns : List ℕ) (most at i : ℕ) : Type 0 where
   pub inside : at ≤ length run
   pub floor : need (shape_of []) ≤ most
-  pub same : max most (mostNeed (storesLeft run (take mostStores ns) at i)) ≡ need_of run ns
+  pub same : max most (most_need (stores_left run (take most_stores ns) at i)) ≡ need_of run ns
 
-pub needing-start : (run ns : List ℕ) {most : ℕ} → most ≡ need (shape_of []) → Needing run ns most 0 0
+pub needing_start : (run ns : List ℕ) {most : ℕ} → most ≡ need (shape_of []) → Needing run ns most 0 0
 unfolding need_of
-needing-start run ns e = record { inside = omega arith; floor = omega arith; same = omega (arith, e, needs-floor (pieces run (take mostStores ns))) }
+needing_start run ns e = record { inside = omega arith; floor = omega arith; same = omega (arith, e, needs_floor (pieces run (take most_stores ns))) }
 
 take_within : (n : ℕ) (l : List ℕ) → take (min n (length l)) l ≡ take n l
 take_within zero l = ap (λ (k : ℕ). take k l) (zero-min (length l))
 take_within (suc n) [] = take-nil (min (suc n) 0)
 take_within (suc n) (x ∷ l) = ap (λ (k : ℕ). take k (x ∷ l)) (suc-min-suc n (length l)) ∙ ap (λ (m : List ℕ). x ∷ m) (take_within n l)
 
-drop-within : (n : ℕ) (l : List ℕ) → drop (min n (length l)) l ≡ drop n l
-drop-within zero l = ap (λ (k : ℕ). drop k l) (zero-min (length l))
-drop-within (suc n) [] = drop-nil (min (suc n) 0)
-drop-within (suc n) (x ∷ l) = ap (λ (k : ℕ). drop k (x ∷ l)) (suc-min-suc n (length l)) ∙ drop-within n l
+drop_within : (n : ℕ) (l : List ℕ) → drop (min n (length l)) l ≡ drop n l
+drop_within zero l = ap (λ (k : ℕ). drop k l) (zero-min (length l))
+drop_within (suc n) [] = drop-nil (min (suc n) 0)
+drop_within (suc n) (x ∷ l) = ap (λ (k : ℕ). drop k (x ∷ l)) (suc-min-suc n (length l)) ∙ drop_within n l
 
 module _ {run ns : List ℕ} {most at i : ℕ} (a : Needing run ns most at i) where
-  pub needing-end : length (take mostStores ns) ≤ i → most ≡ need_of run ns
-  unfolding mostNeed pieces
-  needing-end h = omega (arith, a.floor, ap (λ (l : List ℕ). max most (mostNeed (pieces (drop at run) l))) (drop_of_length-le (take mostStores ns) h), a.same)
+  pub needing_end : length (take most_stores ns) ≤ i → most ≡ need_of run ns
+  unfolding most_need pieces
+  needing_end h = omega (arith, a.floor, ap (λ (l : List ℕ). max most (most_need (pieces (drop at run) l))) (drop_of_length-le (take most_stores ns) h), a.same)
 
   -- what is lent of the store at hand, and where the next one begins
-  module _ (h : i < length (take mostStores ns)) {m : ℕ} (em : m ≡ min (get_or ns i 0) (length run - at)) where
+  module _ (h : i < length (take most_stores ns)) {m : ℕ} (em : m ≡ min (get_or ns i 0) (length run - at)) where
     abbrev given : ℕ
-    given = get_or (take mostStores ns) i 0
+    given = get_or (take most_stores ns) i 0
 
     lent : m ≡ min given (length (drop at run))
     lent =
-        let e : i < mostStores = omega (arith, length-take mostStores ns) in
-        em ∙ (λ j. min (sym (get_or-take mostStores ns i 0 e) j) (sym (length-drop at run) j))
+        let e : i < most_stores = omega (arith, length-take most_stores ns) in
+        em ∙ (λ j. min (sym (get_or-take most_stores ns i 0 e) j) (sym (length-drop at run) j))
 
-    pub needing-in : at + m ≤ length run
-    needing-in = omega (arith, a.inside)
+    pub needing_in : at + m ≤ length run
+    needing_in = omega (arith, a.inside)
 
-    pub needing-next : {most' : ℕ} → most' ≡ max most (need (shape_of (storeAt run at m))) → Needing run ns most' (at + m) (i + 1)
-    unfolding mostNeed
-    needing-next {most'} e =
+    pub needing_next : {most' : ℕ} → most' ≡ max most (need (shape_of (store_at run at m))) → Needing run ns most' (at + m) (i + 1)
+    unfolding most_need
+    needing_next {most'} e =
         let l = drop at run in
-        let rest = drop (suc i) (take mostStores ns) in
-        let t : storeAt run at m ≡ storeAt run at given = ap (λ (k : ℕ). take k l) lent ∙ take_within given l in
-        let d : drop (at + m) run ≡ drop (at + given) run = sym (drop-drop m at run) ∙ ap (λ (k : ℕ). drop k l) lent ∙ drop-within given l ∙ drop-drop given at run in
+        let rest = drop (suc i) (take most_stores ns) in
+        let t : store_at run at m ≡ store_at run at given = ap (λ (k : ℕ). take k l) lent ∙ take_within given l in
+        let d : drop (at + m) run ≡ drop (at + given) run = sym (drop-drop m at run) ∙ ap (λ (k : ℕ). drop k l) lent ∙ drop_within given l ∙ drop-drop given at run in
         let p : i + 1 ≡ suc i = omega arith in
-        let s = ap mostNeed (stores-on run (take mostStores ns) at i h) in
-        let q : mostNeed (pieces (drop (at + m) run) rest) ≡ mostNeed (pieces (drop (at + given) run) rest) = ap (λ (k : List ℕ). mostNeed (pieces k rest)) d in
-        let w : need (shape_of (storeAt run at m)) ≡ need (shape_of (storeAt run at given)) = ap (λ (k : List ℕ). need (shape_of k)) t in
-        record { inside = needing-in; floor = omega (arith, a.floor); same = rw p (omega (arith, e, s, q, w, a.same)) }
+        let s = ap most_need (stores_on run (take most_stores ns) at i h) in
+        let q : most_need (pieces (drop (at + m) run) rest) ≡ most_need (pieces (drop (at + given) run) rest) = ap (λ (k : List ℕ). most_need (pieces k rest)) d in
+        let w : need (shape_of (store_at run at m)) ≡ need (shape_of (store_at run at given)) = ap (λ (k : List ℕ). need (shape_of k)) t in
+        record { inside = needing_in; floor = omega (arith, a.floor); same = rw p (omega (arith, e, s, q, w, a.same)) }
 
 -- the histories
 
 pub record Adding (run ns rows : List ℕ) (t : Totals) (at i : ℕ) : Type 0 where
   pub few : i ≤ length ns
   pub sum : at + total (λ n. n) (drop i ns) ≡ length run
-  pub sounds : all sound (storesLeft run ns at i) ≡ true
-  pub takes : Takes rows (total length (allHistories (storesLeft run ns at i)))
-  pub same : noteAll rows t.cards (allHistories (storesLeft run ns at i)) ≡ noteAll blank 0 (allHistories (pieces run ns))
-  pub cards : t.cards + length (allHistories (storesLeft run ns at i)) ≡ length (allHistories (pieces run ns))
-  pub entries : t.entries + total length (allHistories (storesLeft run ns at i)) ≡ total length (allHistories (pieces run ns))
+  pub sounds : all sound (stores_left run ns at i) ≡ true
+  pub takes : Takes rows (total length (all_histories (stores_left run ns at i)))
+  pub same : note_all rows t.cards (all_histories (stores_left run ns at i)) ≡ note_all blank 0 (all_histories (pieces run ns))
+  pub cards : t.cards + length (all_histories (stores_left run ns at i)) ≡ length (all_histories (pieces run ns))
+  pub entries : t.entries + total length (all_histories (stores_left run ns at i)) ≡ total length (all_histories (pieces run ns))
 
 -- a sound run has sound stores alone
-pub stores-sound : (run ns : List ℕ) → runSound run ns ≡ true → all sound (pieces run ns) ≡ true
-unfolding runSound
-stores-sound run ns e = (both (eqb (total (λ n. n) ns) (length run)) (all sound (pieces run ns)) e).1
+pub stores_sound : (run ns : List ℕ) → run_sound run ns ≡ true → all sound (pieces run ns) ≡ true
+unfolding run_sound
+stores_sound run ns e = (both (eqb (total (λ n. n) ns) (length run)) (all sound (pieces run ns)) e).1
 
 -- what it has at most
 pub record Bounded (run ns : List ℕ) : Type 0 where
-  pub cards : length (allHistories (pieces run ns)) ≤ cardsEver * mostStores
-  pub entries : total length (allHistories (pieces run ns)) ≤ faultsEver * mostStores
+  pub cards : length (all_histories (pieces run ns)) ≤ cards_ever * most_stores
+  pub entries : total length (all_histories (pieces run ns)) ≤ faults_ever * most_stores
 
-pub bounded : (run ns : List ℕ) → runSound run ns ≡ true → length ns ≤ mostStores → Bounded run ns
+pub bounded : (run ns : List ℕ) → run_sound run ns ≡ true → length ns ≤ most_stores → Bounded run ns
 bounded run ns e l =
-    let s = stores-sound run ns e in
-    record { cards = omega (arith, run-cards (pieces run ns) s, pieces-count run ns); entries = omega (arith, run-faults (pieces run ns) s, pieces-count run ns) }
+    let s = stores_sound run ns e in
+    record { cards = omega (arith, run_cards (pieces run ns) s, pieces_count run ns); entries = omega (arith, run_faults (pieces run ns) s, pieces_count run ns) }
 
-pub adding-start : (run ns rows : List ℕ) → runSound run ns ≡ true → length ns ≤ mostStores → rows ≡ blank → Adding run ns rows (record { cards = 0; entries = 0 }) 0 0
-unfolding runSound
-adding-start run ns rows e l z =
+pub adding_start : (run ns rows : List ℕ) → run_sound run ns ≡ true → length ns ≤ most_stores → rows ≡ blank → Adding run ns rows (record { cards = 0; entries = 0 }) 0 0
+unfolding run_sound
+adding_start run ns rows e l z =
     let b = both (eqb (total (λ n. n) ns) (length run)) (all sound (pieces run ns)) e in
     record {
       few = omega arith;
       sum = omega (arith, eqb-true (total (λ n. n) ns) (length run) b.0);
       sounds = b.1;
-      takes = rw z (takes-blank _ (omega (arith, (bounded run ns e l).entries)));
+      takes = rw z (takes_blank _ (omega (arith, (bounded run ns e l).entries)));
       same = rw z;
       cards = omega arith;
       entries = omega arith;
     }
 
 module _ {run ns rows : List ℕ} {t : Totals} {at i : ℕ} (a : Adding run ns rows t at i) where
-  pub adding-end : length ns ≤ i → NotedAll run ns t rows
-  unfolding allHistories noteAll pieces
-  adding-end h =
+  pub adding_end : length ns ≤ i → NotedAll run ns t rows
+  unfolding all_histories note_all pieces
+  adding_end h =
       let z : drop i ns ≡ [] = drop_of_length-le ns h in
       record {
-        rows_are = sym (ap (λ (l : List ℕ). noteAll rows t.cards (allHistories (pieces (drop at run) l))) z) ∙ a.same;
-        cards-are = omega (arith, ap (λ (l : List ℕ). length (allHistories (pieces (drop at run) l))) z, a.cards);
-        entries-are = omega (arith, ap (λ (l : List ℕ). total length (allHistories (pieces (drop at run) l))) z, a.entries);
+        rows_are = sym (ap (λ (l : List ℕ). note_all rows t.cards (all_histories (pieces (drop at run) l))) z) ∙ a.same;
+        cards_are = omega (arith, ap (λ (l : List ℕ). length (all_histories (pieces (drop at run) l))) z, a.cards);
+        entries_are = omega (arith, ap (λ (l : List ℕ). total length (all_histories (pieces (drop at run) l))) z, a.entries);
       }
 
   module _ (h : i < length ns) where
@@ -246,41 +246,41 @@ module _ {run ns rows : List ℕ} {t : Totals} {at i : ℕ} (a : Adding run ns r
     here = get_or ns i 0
 
     abbrev store : List ℕ
-    store = storeAt run at here
+    store = store_at run at here
 
     abbrev behind : List (List ℕ)
-    behind = storesLeft run ns (at + here) (suc i)
+    behind = stores_left run ns (at + here) (suc i)
 
-    left-on : allHistories (storesLeft run ns at i) ≡ historiesIn store ++ allHistories behind
-    unfolding allHistories
-    left-on = ap allHistories (stores-on run ns at i h)
+    left_on_lem : all_histories (stores_left run ns at i) ≡ histories_in store ++ all_histories behind
+    unfolding all_histories
+    left_on_lem = ap all_histories (stores_on run ns at i h)
 
-    sounds-on : (sound store ≡ true) × (all sound behind ≡ true)
-    sounds-on = both (sound store) (all sound behind) (sym (ap (all sound) (stores-on run ns at i h)) ∙ a.sounds)
+    sounds_on : (sound store ≡ true) × (all sound behind ≡ true)
+    sounds_on = both (sound store) (all sound behind) (sym (ap (all sound) (stores_on run ns at i h)) ∙ a.sounds)
 
-    takes-on : Takes rows (total length (historiesIn store) + total length (allHistories behind))
-    takes-on = subst (Takes rows) (ap (total length) left-on ∙ total-append length (historiesIn store) (allHistories behind)) a.takes
+    takes_on : Takes rows (total length (histories_in store) + total length (all_histories behind))
+    takes_on = subst (Takes rows) (ap (total length) left_on_lem ∙ total_append length (histories_in store) (all_histories behind)) a.takes
 
-    pub adding-in : at + here ≤ length run
-    adding-in = omega (arith, ap (total (λ n. n)) (lengths-on run ns at i h), a.sum)
+    pub adding_in : at + here ≤ length run
+    adding_in = omega (arith, ap (total (λ n. n)) (lengths_on run ns at i h), a.sum)
 
-    pub adding-sound : sound store ≡ true
-    adding-sound = sounds-on.0
+    pub adding_sound : sound store ≡ true
+    adding_sound = sounds_on.0
 
-    pub adding-takes : Takes rows (total length (historiesIn store))
-    adding-takes = takes-less rows _ _ takes-on (omega arith)
+    pub adding_takes : Takes rows (total length (histories_in store))
+    adding_takes = takes_less rows _ _ takes_on (omega arith)
 
-    pub adding-next : {rows' : List ℕ} {t' : Totals} → Noted store t rows t' rows' → Adding run ns rows' t' (at + here) (i + 1)
-    adding-next {rows'} {t'} n =
+    pub adding_next : {rows' : List ℕ} {t' : Totals} → Noted store t rows t' rows' → Adding run ns rows' t' (at + here) (i + 1)
+    adding_next {rows'} {t'} n =
         let p : i + 1 ≡ suc i = omega arith in
         record {
           few = omega arith;
-          sum = rw p (omega (arith, ap (total (λ n. n)) (lengths-on run ns at i h), a.sum));
-          sounds = rw p sounds-on.1;
-          takes = rw (p, n.rows_are) (takes_all rows t.cards _ (historiesIn store) takes-on (sound-codes store sounds-on.0));
+          sum = rw p (omega (arith, ap (total (λ n. n)) (lengths_on run ns at i h), a.sum));
+          sounds = rw p sounds_on.1;
+          takes = rw (p, n.rows_are) (takes_all rows t.cards _ (histories_in store) takes_on (sound_codes store sounds_on.0));
           same =
-              rw (p, n.rows_are, n.cards-are)
-              (sym (histories-append rows t.cards (historiesIn store) (allHistories behind)) ∙ sym (ap (noteAll rows t.cards) left-on) ∙ a.same);
-          cards = rw p (omega (arith, n.cards-are, ap length left-on, length-append (historiesIn store) (allHistories behind), a.cards));
-          entries = rw p (omega (arith, n.entries-are, ap (total length) left-on, total-append length (historiesIn store) (allHistories behind), a.entries));
+              rw (p, n.rows_are, n.cards_are)
+              (sym (histories_append rows t.cards (histories_in store) (all_histories behind)) ∙ sym (ap (note_all rows t.cards) left_on_lem) ∙ a.same);
+          cards = rw p (omega (arith, n.cards_are, ap length left_on_lem, length-append (histories_in store) (all_histories behind), a.cards));
+          entries = rw p (omega (arith, n.entries_are, ap (total length) left_on_lem, total_append length (histories_in store) (all_histories behind), a.entries));
         }

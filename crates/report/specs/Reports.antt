@@ -7,9 +7,9 @@ use Rattle.store.specs.declared.answer.Wrote.{Wrote}
 -- number and bytes written, and all that output and scratch hold afterwards
 pub record Reports (o : Reported) (r : Wrote) (out scratch : List ℕ) : Type 0 where
   pub answer : Tells o.number o.count r
-  pub out-is : out ≡ o.out
-  pub scratch-is : scratch ≡ o.scratch
+  pub out_is : out ≡ o.out
+  pub scratch_is : scratch ≡ o.scratch
 
 -- the answer of a report that is refused
-abbrev pub refusedWrote : ℕ → Wrote
-refusedWrote n = record { number = n; count = 0 }
+abbrev pub refused_wrote : ℕ → Wrote
+refused_wrote n = record { number = n; count = 0 }

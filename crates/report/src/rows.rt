@@ -1,15 +1,15 @@
 // A row of five words for each code: every fault of every history is noted once, in the row of its code.
 ghost use Rattle.std.specs.Prelude.{◌≡◌, true, ◌+◌, ◌≤◌, ◌<◌, length};
-ghost use Rattle.model.specs.Serial.{mostCode};
+ghost use Rattle.model.specs.Serial.{most_code};
 ghost use Rattle.model.specs.Lists.{total};
 ghost use Rattle.model.specs.Layout.{sound};
-ghost use Rattle.model.specs.Report.{historiesIn};
-ghost use Rattle.model.specs.Meaning.{nextFault};
-ghost use Rattle.model.specs.Bounds.{cardsEver};
-ghost use Rattle.model.specs.Shape.{faultsEver};
-ghost use Rattle.reads.specs.Cells.{shapeIn, Sized};
+ghost use Rattle.model.specs.Report.{histories_in};
+ghost use Rattle.model.specs.Meaning.{next_fault};
+ghost use Rattle.model.specs.Bounds.{cards_ever};
+ghost use Rattle.model.specs.Shape.{faults_ever};
+ghost use Rattle.reads.specs.Cells.{shape_in, Sized};
 ghost use Rattle.reads.specs.Chains.{Ends};
-ghost use Rattle.report.specs.Rows.{slipOf, slipsFrom, noted, noteHistory, codesFit, wordTop, Takes, Noted, cardsAfter, earliestAfter, latestAfter};
+ghost use Rattle.report.specs.Rows.{slip_of, slips_from, noted, note_history, codes_fit, word_top, Takes, Noted, cards_after, earliest_after, latest_after};
 
 use store::Header;
 
@@ -41,15 +41,15 @@ pub struct Totals {
 
 // The cards that have a code, with card n: it counts at its first fault of the code.
 fn cards_after(cards: u32, seen: u32, n: u32) -> u32
-    requires { cards + 1 < wordTop }
-    ensures { result ≡ cardsAfter cards seen n }
+    requires { cards + 1 < word_top }
+    ensures { result ≡ cards_after cards seen n }
 {
     if seen == n { cards } else { cards + 1 }
 }
 
 // The earliest day, with one more.
 fn earliest_after(entries: u32, earliest: u32, day: u32) -> u32
-    ensures { result ≡ earliestAfter entries earliest day }
+    ensures { result ≡ earliest_after entries earliest day }
 {
     if entries == 0 {
         return day;
@@ -59,15 +59,15 @@ fn earliest_after(entries: u32, earliest: u32, day: u32) -> u32
 
 // The latest day, with one more.
 fn latest_after(latest: u32, day: u32) -> u32
-    ensures { result ≡ latestAfter latest day }
+    ensures { result ≡ latest_after latest day }
 {
     if latest < day { day } else { latest }
 }
 
 // Notes a fault of card n in the row of its code.
 fn note(rows: &mut [u32], n: u32, day: u32, code: u32)
-    requires { (code ≤ mostCode) × Takes rows.old 1 }
-    ensures { rows.new ≡ noted rows.old n (slipOf day code) }
+    requires { (code ≤ most_code) × Takes rows.old 1 }
+    ensures { rows.new ≡ noted rows.old n (slip_of day code) }
 {
     let at = ROW * code as usize;
     let entries = rows[at];
@@ -85,8 +85,8 @@ fn note(rows: &mut [u32], n: u32, day: u32, code: u32)
 // Notes the history from fault cell `first` on, of card n. The next cell is read before a fault is noted, and in `note_store` the next card
 // before a history is: a processor then has it sooner.
 fn note_history(w: &[u32], h: Header, first: u32, rows: &mut [u32], n: u32)
-    requires { Sized w.now h × Ends h.faults (nextFault (shapeIn h) w.now) first × (codesFit (slipsFrom (shapeIn h) w.now first) ≡ true) × Takes rows.old (length (slipsFrom (shapeIn h) w.now first)) }
-    ensures { rows.new ≡ noteHistory rows.old n (slipsFrom (shapeIn h) w.now first) }
+    requires { Sized w.now h × Ends h.faults (next_fault (shape_in h) w.now) first × (codes_fit (slips_from (shape_in h) w.now first) ≡ true) × Takes rows.old (length (slips_from (shape_in h) w.now first)) }
+    ensures { rows.new ≡ note_history rows.old n (slips_from (shape_in h) w.now first) }
 {
     let mut i = first;
     while i != 0 {
@@ -100,7 +100,7 @@ fn note_history(w: &[u32], h: Header, first: u32, rows: &mut [u32], n: u32)
 
 // Notes the histories of all cards of a sound store. The cards of the stores before it are counted, and numbered, already.
 pub fn note_store(w: &[u32], rows: &mut [u32], sum: Totals) -> Totals
-    requires { (sound w.now ≡ true) × Takes rows.old (total length (historiesIn w.now)) × (sum.cards + cardsEver < wordTop) × (sum.entries + faultsEver < wordTop) }
+    requires { (sound w.now ≡ true) × Takes rows.old (total length (histories_in w.now)) × (sum.cards + cards_ever < word_top) × (sum.entries + faults_ever < word_top) }
     ensures { Noted w.now sum rows.old result rows.new }
 {
     let h = store::header_of(w);

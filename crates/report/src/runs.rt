@@ -2,9 +2,9 @@
 ghost use Rattle.std.specs.Prelude.{◌≡◌, true, ◌≤◌, ◌<◌, min, max, length, get_or};
 ghost use Rattle.model.specs.Shape.{need};
 ghost use Rattle.model.specs.Layout.{shape_of};
-ghost use Rattle.model.specs.Report.{mostStores, runSound, need_of};
+ghost use Rattle.model.specs.Report.{most_stores, run_sound, need_of};
 ghost use Rattle.report.specs.Rows.{blank};
-ghost use Rattle.report.specs.Runs.{storeAt, soundAt, Clean, NotedAll};
+ghost use Rattle.report.specs.Runs.{store_at, sound_at, Clean, NotedAll};
 
 use crate::rows;
 use crate::rows::Totals;
@@ -58,8 +58,8 @@ pub fn need_of(words: &[u32], lengths: &[u32]) -> usize
 
 // Whether a store of so many words at a place stands whole in the run, and is sound; no words at all are not. The scratch is clean, and stays so.
 fn sound_at(words: &[u32], at: usize, len: usize, scratch: &mut [u8]) -> bool
-    requires { (at ≤ length words.now) × Clean (need (shape_of (storeAt words.now at len))) scratch.old }
-    ensures { (result ≡ soundAt words.now at len) × (scratch.new ≡ scratch.old) }
+    requires { (at ≤ length words.now) × Clean (need (shape_of (store_at words.now at len))) scratch.old }
+    ensures { (result ≡ sound_at words.now at len) × (scratch.new ≡ scratch.old) }
 {
     if words.len() - at < len {
         return false;
@@ -70,8 +70,8 @@ fn sound_at(words: &[u32], at: usize, len: usize, scratch: &mut [u8]) -> bool
 
 // Whether the lengths add up to the run, and each store in it is sound. No two lengths are added: each has to fit into what is left.
 pub fn all_sound(words: &[u32], lengths: &[u32], scratch: &mut [u8]) -> bool
-    requires { (length lengths.now ≤ mostStores) × Clean (need_of words.now lengths.now) scratch.old }
-    ensures { (result ≡ runSound words.now lengths.now) × (scratch.new ≡ scratch.old) }
+    requires { (length lengths.now ≤ most_stores) × Clean (need_of words.now lengths.now) scratch.old }
+    ensures { (result ≡ run_sound words.now lengths.now) × (scratch.new ≡ scratch.old) }
 {
     let mut at: usize = 0;
     let mut i: usize = 0;
@@ -88,7 +88,7 @@ pub fn all_sound(words: &[u32], lengths: &[u32], scratch: &mut [u8]) -> bool
 
 // Notes the histories of all stores of a run in blank rows.
 pub fn note_all(words: &[u32], lengths: &[u32], rows: &mut [u32]) -> Totals
-    requires { (runSound words.now lengths.now ≡ true) × (length lengths.now ≤ mostStores) × (rows.old ≡ blank) }
+    requires { (run_sound words.now lengths.now ≡ true) × (length lengths.now ≤ most_stores) × (rows.old ≡ blank) }
     ensures { NotedAll words.now lengths.now result rows.new }
 {
     let mut t = Totals {

@@ -1,10 +1,10 @@
 // The text of a report: a line for each code that has entries, codes rising, then the totals.
 ghost use Rattle.std.specs.Prelude.{◌≡◌, [], ◌∷◌, ◌+◌, ◌*◌, ◌≤◌, ◌<◌, length, get_or};
-ghost use Rattle.model.specs.Serial.{mostCode};
-ghost use Rattle.model.specs.Report.{numbersLine, rateLine, totalLines};
+ghost use Rattle.model.specs.Serial.{most_code};
+ghost use Rattle.model.specs.Report.{numbers_line, rate_line, total_lines};
 ghost use Rattle.text.specs.Decimals.{Puts};
-ghost use Rattle.report.specs.Rows.{rowWidth, row_at, rowsLong, row_of};
-ghost use Rattle.report.specs.Texts.{row_line, row_lines, text_of, longestOf, longestRow, longestTotals, mostRated, Long, EndsAt, PutsReport};
+ghost use Rattle.report.specs.Rows.{row_width, row_at, rows_long, row_of};
+ghost use Rattle.report.specs.Texts.{row_line, row_lines, text_of, longest_of, longest_row, longest_totals, most_rated, Long, EndsAt, PutsReport};
 
 use crate::rows;
 use crate::rows::Totals;
@@ -13,7 +13,7 @@ use text::{decimals, letters};
 
 // Word j of the row of code k.
 fn row_word(rows: &[u32], k: usize, j: usize) -> u32
-    requires { (length rows.now ≡ rowsLong) × (k ≤ mostCode) × (j < rowWidth) }
+    requires { (length rows.now ≡ rows_long) × (k ≤ most_code) × (j < row_width) }
     ensures { result ≡ get_or rows.now (row_at k + j) 0 }
 {
     rows[rows::ROW * k + j]
@@ -21,14 +21,14 @@ fn row_word(rows: &[u32], k: usize, j: usize) -> u32
 
 // A line of one number: how long it is, and written.
 fn line1_len(a: u32) -> usize
-    ensures { Long (numbersLine (a ∷ [])) (longestOf 1) result }
+    ensures { Long (numbers_line (a ∷ [])) (longest_of 1) result }
 {
     decimals::decimal_len(a) + 1
 }
 
 fn put_line1(out: &mut [u8], at: usize, a: u32) -> usize
-    requires { at + length (numbersLine (a ∷ [])) ≤ length out.old }
-    ensures { Puts out.old at (numbersLine (a ∷ [])) result out.new }
+    requires { at + length (numbers_line (a ∷ [])) ≤ length out.old }
+    ensures { Puts out.old at (numbers_line (a ∷ [])) result out.new }
 {
     let p = decimals::put_decimal(out, at, a);
     decimals::put_byte(out, p, letters::LF)
@@ -36,14 +36,14 @@ fn put_line1(out: &mut [u8], at: usize, a: u32) -> usize
 
 // A line of two numbers.
 fn line2_len(a: u32, b: u32) -> usize
-    ensures { Long (numbersLine (a ∷ b ∷ [])) (longestOf 2) result }
+    ensures { Long (numbers_line (a ∷ b ∷ [])) (longest_of 2) result }
 {
     decimals::decimal_len(a) + 1 + line1_len(b)
 }
 
 fn put_line2(out: &mut [u8], at: usize, a: u32, b: u32) -> usize
-    requires { at + length (numbersLine (a ∷ b ∷ [])) ≤ length out.old }
-    ensures { Puts out.old at (numbersLine (a ∷ b ∷ [])) result out.new }
+    requires { at + length (numbers_line (a ∷ b ∷ [])) ≤ length out.old }
+    ensures { Puts out.old at (numbers_line (a ∷ b ∷ [])) result out.new }
 {
     let p = decimals::put_decimal(out, at, a);
     let q = decimals::put_byte(out, p, letters::SPACE);
@@ -52,7 +52,7 @@ fn put_line2(out: &mut [u8], at: usize, a: u32, b: u32) -> usize
 
 // A line of five numbers.
 fn line5_len(a: u32, b: u32, c: u32, d: u32, e: u32) -> usize
-    ensures { Long (numbersLine (a ∷ b ∷ c ∷ d ∷ e ∷ [])) longestRow result }
+    ensures { Long (numbers_line (a ∷ b ∷ c ∷ d ∷ e ∷ [])) longest_row result }
 {
     let p = decimals::decimal_len(a);
     let q = decimals::decimal_len(b);
@@ -61,8 +61,8 @@ fn line5_len(a: u32, b: u32, c: u32, d: u32, e: u32) -> usize
 }
 
 fn put_line5(out: &mut [u8], at: usize, a: u32, b: u32, c: u32, d: u32, e: u32) -> usize
-    requires { at + length (numbersLine (a ∷ b ∷ c ∷ d ∷ e ∷ [])) ≤ length out.old }
-    ensures { Puts out.old at (numbersLine (a ∷ b ∷ c ∷ d ∷ e ∷ [])) result out.new }
+    requires { at + length (numbers_line (a ∷ b ∷ c ∷ d ∷ e ∷ [])) ≤ length out.old }
+    ensures { Puts out.old at (numbers_line (a ∷ b ∷ c ∷ d ∷ e ∷ [])) result out.new }
 {
     let p = decimals::put_decimal(out, at, a);
     let q = decimals::put_marked(out, p, letters::SPACE, b);
@@ -73,8 +73,8 @@ fn put_line5(out: &mut [u8], at: usize, a: u32, b: u32, c: u32, d: u32, e: u32) 
 
 // The line of a code, none where it has no entry: where it ends if it begins at `at`, and written there.
 fn row_end(rows: &[u32], k: usize, at: usize) -> usize
-    requires { (length rows.now ≡ rowsLong) × (k ≤ mostCode) × (at ≤ longestRow * mostCode) }
-    ensures { EndsAt at (row_line k (row_of rows.now k)) longestRow result }
+    requires { (length rows.now ≡ rows_long) × (k ≤ most_code) × (at ≤ longest_row * most_code) }
+    ensures { EndsAt at (row_line k (row_of rows.now k)) longest_row result }
 {
     let entries = row_word(rows, k, rows::TO_ENTRIES);
     if entries == 0 {
@@ -87,7 +87,7 @@ fn row_end(rows: &[u32], k: usize, at: usize) -> usize
 }
 
 fn put_row(out: &mut [u8], at: usize, rows: &[u32], k: usize) -> usize
-    requires { (length rows.now ≡ rowsLong) × (k ≤ mostCode) × (at + length (row_line k (row_of rows.now k)) ≤ length out.old) }
+    requires { (length rows.now ≡ rows_long) × (k ≤ most_code) × (at + length (row_line k (row_of rows.now k)) ≤ length out.old) }
     ensures { Puts out.old at (row_line k (row_of rows.now k)) result out.new }
 {
     let entries = row_word(rows, k, rows::TO_ENTRIES);
@@ -102,8 +102,8 @@ fn put_row(out: &mut [u8], at: usize, rows: &[u32], k: usize) -> usize
 
 // The lines of all codes.
 fn rows_len(rows: &[u32]) -> usize
-    requires { length rows.now ≡ rowsLong }
-    ensures { Long (row_lines rows.now 1 mostCode) (longestRow * mostCode) result }
+    requires { length rows.now ≡ rows_long }
+    ensures { Long (row_lines rows.now 1 most_code) (longest_row * most_code) result }
 {
     let mut end: usize = 0;
     let mut k: usize = 1;
@@ -115,8 +115,8 @@ fn rows_len(rows: &[u32]) -> usize
 }
 
 fn put_rows(out: &mut [u8], at: usize, rows: &[u32]) -> usize
-    requires { (length rows.now ≡ rowsLong) × (at + length (row_lines rows.now 1 mostCode) ≤ length out.old) }
-    ensures { Puts out.old at (row_lines rows.now 1 mostCode) result out.new }
+    requires { (length rows.now ≡ rows_long) × (at + length (row_lines rows.now 1 most_code) ≤ length out.old) }
+    ensures { Puts out.old at (row_lines rows.now 1 most_code) result out.new }
 {
     let mut end = at;
     let mut k: usize = 1;
@@ -129,8 +129,8 @@ fn put_rows(out: &mut [u8], at: usize, rows: &[u32]) -> usize
 
 // Entries per thousand cards, whole part and remainder; none with no cards.
 fn rate_len(t: Totals) -> usize
-    requires { t.entries ≤ mostRated }
-    ensures { Long (rateLine t.cards t.entries) (longestOf 2) result }
+    requires { t.entries ≤ most_rated }
+    ensures { Long (rate_line t.cards t.entries) (longest_of 2) result }
 {
     if t.cards == 0 {
         return 0;
@@ -140,8 +140,8 @@ fn rate_len(t: Totals) -> usize
 }
 
 fn put_rate(out: &mut [u8], at: usize, t: Totals) -> usize
-    requires { (t.entries ≤ mostRated) × (at + length (rateLine t.cards t.entries) ≤ length out.old) }
-    ensures { Puts out.old at (rateLine t.cards t.entries) result out.new }
+    requires { (t.entries ≤ most_rated) × (at + length (rate_line t.cards t.entries) ≤ length out.old) }
+    ensures { Puts out.old at (rate_line t.cards t.entries) result out.new }
 {
     if t.cards == 0 {
         return at;
@@ -152,15 +152,15 @@ fn put_rate(out: &mut [u8], at: usize, t: Totals) -> usize
 
 // All cards, all entries and the rate.
 fn totals_len(t: Totals) -> usize
-    requires { t.entries ≤ mostRated }
-    ensures { Long (totalLines t.cards t.entries) longestTotals result }
+    requires { t.entries ≤ most_rated }
+    ensures { Long (total_lines t.cards t.entries) longest_totals result }
 {
     line1_len(t.cards) + line1_len(t.entries) + rate_len(t)
 }
 
 fn put_totals(out: &mut [u8], at: usize, t: Totals) -> usize
-    requires { (t.entries ≤ mostRated) × (at + length (totalLines t.cards t.entries) ≤ length out.old) }
-    ensures { Puts out.old at (totalLines t.cards t.entries) result out.new }
+    requires { (t.entries ≤ most_rated) × (at + length (total_lines t.cards t.entries) ≤ length out.old) }
+    ensures { Puts out.old at (total_lines t.cards t.entries) result out.new }
 {
     let p = put_line1(out, at, t.cards);
     let q = put_line1(out, p, t.entries);
@@ -169,7 +169,7 @@ fn put_totals(out: &mut [u8], at: usize, t: Totals) -> usize
 
 // The whole text at the front of the output, or 10 and nothing where it does not fit.
 pub fn put_report(out: &mut [u8], rows: &[u32], t: Totals) -> Wrote
-    requires { (length rows.now ≡ rowsLong) × (t.entries ≤ mostRated) }
+    requires { (length rows.now ≡ rows_long) × (t.entries ≤ most_rated) }
     ensures { PutsReport (text_of rows.now t) out.old result out.new }
 {
     let n = rows_len(rows) + totals_len(t);

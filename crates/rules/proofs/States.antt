@@ -1,7 +1,7 @@
 -- What a good state is, taken apart and put together. Assumes nothing.
 use Rattle.std.proofs.Common.{◌≡◌, ℕ, ◌+◌, ◌*◌, ◌/◌, ◌<◌, ◌≤◌, Bool, true, false, ◌||◌, eqb, ◌⊎◌, refl, inl, inr, arith, ltb-true, lt-ltb, eqb-true, le-leb, leb-true}
 use mathlib.Core.Bool.{false≢true}
-use Rattle.rules.specs.Table.{sizeOk, stateOk}
+use Rattle.rules.specs.Table.{size_ok, state_ok}
 use Rattle.rules.proofs.Tests.{by_cases, both}
 
 -- the five sizes
@@ -31,13 +31,13 @@ of_size s128 = inr (inr (inr (inl refl)))
 of_size s256 = inr (inr (inr (inr refl)))
 
 -- the test of a size says that it is one of the five
-pub size_ok : {m : ℕ} → Size m → sizeOk m ≡ true
-unfolding sizeOk
-size_ok s16 = refl
-size_ok s32 = refl
-size_ok s64 = refl
-size_ok s128 = refl
-size_ok s256 = refl
+pub size_ok_lem : {m : ℕ} → Size m → size_ok m ≡ true
+unfolding size_ok
+size_ok_lem s16 = refl
+size_ok_lem s32 = refl
+size_ok_lem s64 = refl
+size_ok_lem s128 = refl
+size_ok_lem s256 = refl
 
 five : (m : ℕ) (a b c d e : Bool) → eqb m 16 ≡ a → eqb m 32 ≡ b → eqb m 64 ≡ c → eqb m 128 ≡ d → eqb m 256 ≡ e
     → (a || b || c || d || e) ≡ true → Size m
@@ -48,12 +48,12 @@ five m false false false true e p q r s t h = rw (eqb-true m 128 s) s128
 five m false false false false true p q r s t h = rw (eqb-true m 256 t) s256
 five m false false false false false p q r s t h = absurd (false≢true h)
 
-pub ok-size : (m : ℕ) → sizeOk m ≡ true → Size m
-unfolding sizeOk
-ok-size m h = five m _ _ _ _ _ refl refl refl refl refl h
+pub ok_size : (m : ℕ) → size_ok m ≡ true → Size m
+unfolding size_ok
+ok_size m h = five m _ _ _ _ _ refl refl refl refl refl h
 
-pub no_size : (m : ℕ) → (Size m → ⊥) → sizeOk m ≡ false
-no_size m f = by_cases (sizeOk m) (λ e. absurd (f (ok-size m e))) (λ e. e)
+pub no_size : (m : ℕ) → (Size m → ⊥) → size_ok m ≡ false
+no_size m f = by_cases (size_ok m) (λ e. absurd (f (ok_size m e))) (λ e. e)
 
 -- the bounds of a size, and its double and half
 pub size_low : {m : ℕ} → Size m → 16 ≤ m
@@ -70,19 +70,19 @@ size_top s64 = omega arith
 size_top s128 = omega arith
 size_top s256 = omega arith
 
-pub size-double : {m : ℕ} → Size m → m ≤ 128 → Size (2 * m)
-size-double s16 h = s32
-size-double s32 h = s64
-size-double s64 h = s128
-size-double s128 h = s256
-size-double s256 h = absurd (omega arith)
+pub size_double : {m : ℕ} → Size m → m ≤ 128 → Size (2 * m)
+size_double s16 h = s32
+size_double s32 h = s64
+size_double s64 h = s128
+size_double s128 h = s256
+size_double s256 h = absurd (omega arith)
 
-pub size-half : {m : ℕ} → Size m → 16 < m → Size (m / 2) × (2 * (m / 2) ≡ m)
-size-half s16 h = absurd (omega arith)
-size-half s32 h = (s16, refl)
-size-half s64 h = (s32, refl)
-size-half s128 h = (s64, refl)
-size-half s256 h = (s128, refl)
+pub size_half : {m : ℕ} → Size m → 16 < m → Size (m / 2) × (2 * (m / 2) ≡ m)
+size_half s16 h = absurd (omega arith)
+size_half s32 h = (s16, refl)
+size_half s64 h = (s32, refl)
+size_half s128 h = (s64, refl)
+size_half s256 h = (s128, refl)
 
 -- a good state of a table of at most t buckets
 pub record State (t m p : ℕ) : Type 0 where
@@ -90,19 +90,19 @@ pub record State (t m p : ℕ) : Type 0 where
   pub below : p < m
   pub room : m + p ≤ t
 
-pub state-of : (t m p : ℕ) → stateOk t m p ≡ true → State t m p
-unfolding stateOk
-state-of t m p h =
+pub state_of : (t m p : ℕ) → state_ok t m p ≡ true → State t m p
+unfolding state_ok
+state_of t m p h =
     let e = both _ _ h in
     let u = both _ _ e.1 in
-    record { size = ok-size m e.0; below = ltb-true p m u.0; room = leb-true (m + p) t u.1 }
+    record { size = ok_size m e.0; below = ltb-true p m u.0; room = leb-true (m + p) t u.1 }
 
-pub state-ok : {t m p : ℕ} → State t m p → stateOk t m p ≡ true
-unfolding stateOk
-state-ok {t} {m} {p} g = simp (size_ok g.size, lt-ltb p m g.below, le-leb (m + p) t g.room)
+pub state_ok_lem : {t m p : ℕ} → State t m p → state_ok t m p ≡ true
+unfolding state_ok
+state_ok_lem {t} {m} {p} g = simp (size_ok_lem g.size, lt-ltb p m g.below, le-leb (m + p) t g.room)
 
 -- a state of a small table is one of a larger table
-pub state-wider : (t u m p : ℕ) → t ≤ u → stateOk t m p ≡ true → stateOk u m p ≡ true
-state-wider t u m p l h =
-    let g = state-of t m p h in
-    state-ok (record { size = g.size; below = g.below; room = omega (arith, g.room) })
+pub state_wider : (t u m p : ℕ) → t ≤ u → state_ok t m p ≡ true → state_ok u m p ≡ true
+state_wider t u m p l h =
+    let g = state_of t m p h in
+    state_ok_lem (record { size = g.size; below = g.below; room = omega (arith, g.room) })

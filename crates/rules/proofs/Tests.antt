@@ -8,8 +8,8 @@ pub by_cases {ℓ} : {P : Type ℓ} (b : Bool) → (b ≡ true → P) → (b ≡
 by_cases true f g = f refl
 by_cases false f g = g refl
 
-pub not-both {ℓ} : {P : Type ℓ} {b : Bool} → b ≡ true → b ≡ false → P
-not-both e f = absurd (false≢true (sym f ∙ e))
+pub not_both {ℓ} : {P : Type ℓ} {b : Bool} → b ≡ true → b ≡ false → P
+not_both e f = absurd (false≢true (sym f ∙ e))
 
 pub both : (a b : Bool) → (a && b) ≡ true → (a ≡ true) × (b ≡ true)
 both true b e = (refl, e)
@@ -18,9 +18,9 @@ both false b e = absurd (false≢true e)
 pub all_of : {a b : Bool} → a ≡ true → b ≡ true → (a && b) ≡ true
 all_of {a} {b} e f = ap (λ (t : Bool). t && b) e ∙ f
 
-pub and-true : (a : Bool) → (a && true) ≡ a
-and-true true = refl
-and-true false = refl
+pub and_true : (a : Bool) → (a && true) ≡ a
+and_true true = refl
+and_true false = refl
 
 pub either : (a b : Bool) → (a || b) ≡ true → (a ≡ true) ⊎ (b ≡ true)
 either true b e = inl refl

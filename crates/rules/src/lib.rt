@@ -1,8 +1,8 @@
 // The code of a serial, the address rule, the load rules and the states of a table, below the store. The C host of the
 // reader calls `reader_code` and `reader_address` directly.
 ghost use Rattle.std.specs.Prelude.{◌≡◌, ◌+◌, ◌*◌, ◌<◌, ◌≤◌, ◌||◌, take, ◌==◌, nat_le};
-ghost use Rattle.rules.specs.Code.{codeStep, code_of};
-ghost use Rattle.rules.specs.Table.{least, top, stateOk, address_of, splits, contracts, loadFits, highMaxp, highP, lowMaxp, lowP};
+ghost use Rattle.rules.specs.Code.{code_step, code_of};
+ghost use Rattle.rules.specs.Table.{least, top, state_ok, address_of, splits, contracts, load_fits, high_maxp, high_p, low_maxp, low_p};
 
 use std::num::wrapping_add_u32;
 
@@ -19,7 +19,7 @@ const NO_ADDRESS: u32 = 4294967295;
 
 // The code with one byte more: 33 times the code by wrapping additions, and the byte added last.
 pub fn code_step(code: u32, byte: u8) -> u32
-    ensures { result ≡ codeStep code byte }
+    ensures { result ≡ code_step code byte }
 {
     let c2 = wrapping_add_u32(code, code);
     let c4 = wrapping_add_u32(c2, c2);
@@ -57,7 +57,7 @@ pub fn serial_code(serial: [u8; 16], len: usize) -> u32
 
 // Whether (maxp, p) is a state of a table of at most `top` buckets.
 pub fn state_ok(top: u32, maxp: u32, p: u32) -> bool
-    ensures { result ≡ stateOk top maxp p }
+    ensures { result ≡ state_ok top maxp p }
 {
     match maxp {
         16 | 32 | 64 | 128 | 256 => p < maxp && maxp + p <= top,
@@ -108,7 +108,7 @@ fn not_under(lower: u32, n: u32, b: u32) -> bool
 
 // Whether a table keeps n cards in b buckets as they are.
 pub fn load_fits(top: u32, upper: u32, lower: u32, n: u32, b: u32) -> bool
-    ensures { result ≡ loadFits top upper lower n b }
+    ensures { result ≡ load_fits top upper lower n b }
 {
     not_over(top, upper, n, b) && not_under(lower, n, b)
 }
@@ -116,28 +116,28 @@ pub fn load_fits(top: u32, upper: u32, lower: u32, n: u32, b: u32) -> bool
 // The state with one bucket more: p grows by 1; if p = maxp, maxp doubles and p is 0.
 pub fn high_maxp(maxp: u32, p: u32) -> u32
     requires { maxp + p < top }
-    ensures { result ≡ highMaxp maxp p }
+    ensures { result ≡ high_maxp maxp p }
 {
     if p + 1 == maxp { 2 * maxp } else { maxp }
 }
 
 pub fn high_p(maxp: u32, p: u32) -> u32
     requires { maxp + p < top }
-    ensures { result ≡ highP maxp p }
+    ensures { result ≡ high_p maxp p }
 {
     if p + 1 == maxp { 0 } else { p + 1 }
 }
 
 // The state with one bucket less: p falls by 1; if it was 0, maxp halves and p is the new maxp - 1.
 pub fn low_maxp(maxp: u32, p: u32) -> u32
-    ensures { result ≡ lowMaxp maxp p }
+    ensures { result ≡ low_maxp maxp p }
 {
     if p == 0 { maxp / 2 } else { maxp }
 }
 
 pub fn low_p(maxp: u32, p: u32) -> u32
     requires { 2 ≤ maxp }
-    ensures { result ≡ lowP maxp p }
+    ensures { result ≡ low_p maxp p }
 {
     if p == 0 { maxp / 2 - 1 } else { p - 1 }
 }

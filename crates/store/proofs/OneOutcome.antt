@@ -9,20 +9,20 @@ use Rattle.store.specs.Leaves.{Opens}
 use Rattle.store.specs.Sequences.{Given, Meets}
 
 -- Enter, File, Show and Withdraw
-pub one-outcome : (w scratch : List ℕ) (act : Act) (a b : Given) → Meets w (acting scratch act) a → Meets w (acting scratch act) b → a ≡ b
-one-outcome w scratch act a b p q = λ i.
+pub one_outcome : (w scratch : List ℕ) (act : Act) (a b : Given) → Meets w (acting scratch act) a → Meets w (acting scratch act) b → a ≡ b
+one_outcome w scratch act a b p q = λ i.
     record {
       answer = record {
         number = (p.answer.number_is ∙ sym q.answer.number_is) i;
-        comparisons = (p.answer.comparisons-are ∙ sym q.answer.comparisons-are) i;
-        scanned = (p.answer.scanned-is ∙ sym q.answer.scanned-is) i;
-        faults = (p.answer.faults-are ∙ sym q.answer.faults-are) i;
+        comparisons = (p.answer.comparisons_are ∙ sym q.answer.comparisons_are) i;
+        scanned = (p.answer.scanned_is ∙ sym q.answer.scanned_is) i;
+        faults = (p.answer.faults_are ∙ sym q.answer.faults_are) i;
       };
       words = (p.words_are ∙ sym q.words_are) i;
-      room = (p.room-is ∙ sym q.room-is) i;
-      scratch = (p.scratch-is ∙ sym q.scratch-is) i;
+      room = (p.room_is ∙ sym q.room_is) i;
+      scratch = (p.scratch_is ∙ sym q.scratch_is) i;
     }
 
 -- Open
-pub one-opening : (o : Opened) {m n : ℕ} {v w : List ℕ} → Opens o m v → Opens o n w → (m ≡ n) × (v ≡ w)
-one-opening o p q = (p.number_is ∙ sym q.number_is, p.words_are ∙ sym q.words_are)
+pub one_opening : (o : Opened) {m n : ℕ} {v w : List ℕ} → Opens o m v → Opens o n w → (m ≡ n) × (v ≡ w)
+one_opening o p q = (p.number_is ∙ sym q.number_is, p.words_are ∙ sym q.words_are)

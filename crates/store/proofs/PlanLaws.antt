@@ -1,5 +1,5 @@
--- Plans of calls on sound words. The header's words and the buckets' chains are what the store has (`size_room`, `held_word`, `bucket-length`
--- ..), so a scan read off the words is the store's (`grow-none`, `grow-some`, `shrink-none`, `shrink-some`); and each way out of a plan gives
+-- Plans of calls on sound words. The header's words and the buckets' chains are what the store has (`size_room`, `held_word_lem`, `bucket_length`
+-- ..), so a scan read off the words is the store's (`grow_none`, `grow_some`, `shrink_none`, `shrink_some`); and each way out of a plan gives
 -- the numbers of its step: `enter-..`, `file-..`, `pairs-..` for Show, and `withdraw-..`, which go by the plan of Show.
 use mathlib.Core.Path.{◌≡◌, refl, sym, ap, subst, ◌∙◌}
 use mathlib.Core.Bool.{true, false, cond}
@@ -11,260 +11,260 @@ use lib.ListN.{length, take, get_or, replicate, length-map, length-replicate}
 use borrow.Author.Tests.{eq-eqb, ne_eqb, lt-ltb, le-ltb}
 use Rattle.rules.specs.Table.{least, splits, contracts}
 use Rattle.rules.proofs.Tests.{by_cases}
-use Rattle.rules.proofs.States.{State, state-of, size_low}
-use Rattle.model.specs.Bounds.{cardsEver}
-use Rattle.model.specs.Shape.{Shape, topOf, faultsEver}
-use Rattle.model.specs.Serial.{validSerial, validFault}
-use Rattle.model.specs.Model.{Store, Card, held, faultsHeld, size, bucket, chainFor, found, historyIn, removed, contractScan}
-use Rattle.model.specs.Layout.{held_at, faultsHeldAt, toFirst, segmentsAt, follow, cardWord, decode, sound}
-use Rattle.model.specs.Meaning.{nextCard, nextFault}
-use Rattle.model.specs.Calls.{Answer, Step, gives, enterStep, fileStep, showStep, withdrawStep}
-use Rattle.model.proofs.Readings.{held-at, faults-held-at}
-use Rattle.model.proofs.Sound.{sound-is, sound-good}
+use Rattle.rules.proofs.States.{State, state_of, size_low}
+use Rattle.model.specs.Bounds.{cards_ever}
+use Rattle.model.specs.Shape.{Shape, top_of, faults_ever}
+use Rattle.model.specs.Serial.{valid_serial, valid_fault}
+use Rattle.model.specs.Model.{Store, Card, held, faults_held, size, bucket, chain_for, found, history_in, removed, contract_scan}
+use Rattle.model.specs.Layout.{held_at, faults_held_at, to_first, segments_at, follow, card_word, decode, sound}
+use Rattle.model.specs.Meaning.{next_card, next_fault}
+use Rattle.model.specs.Calls.{Answer, Step, gives, enter_step, file_step, show_step, withdraw_step}
+use Rattle.model.proofs.Readings.{held_at_lem, faults_held_at_lem}
+use Rattle.model.proofs.Sound.{sound_is, sound_good}
 use Rattle.model.proofs.Fair.{Good}
-use Rattle.model.proofs.Cases.{cards-fit}
-use Rattle.model.proofs.Numbers.{show-numbers}
+use Rattle.model.proofs.Cases.{cards_fit}
+use Rattle.model.proofs.Numbers.{show_numbers}
 use Rattle.reads.specs.declared.header.Header.{Header}
-use Rattle.reads.specs.Cells.{shapeIn, Read}
+use Rattle.reads.specs.Cells.{shape_in, Read}
 use Rattle.reads.specs.Chains.{Ends}
 use Rattle.store.specs.Search.{Finds}
 use Rattle.store.specs.Leaves.{Gives}
-use Rattle.store.specs.Plans.{growScan, shrinkScan, refusedPlan, acceptedPlan, answered, Plans, PlansFor}
+use Rattle.store.specs.Plans.{grow_scan, shrink_scan, refused_plan, accepted_plan, answered, Plans, PlansFor}
 use Rattle.store.specs.declared.plans.Plan.{Plan}
 use Rattle.store.specs.declared.search.Spot.{Spot}
-use Rattle.reads.proofs.AlongLaws.{follow-length}
-use Rattle.reads.proofs.StoredLaws.{bucket-ends, bucket-cells, read-store}
-use Rattle.store.proofs.ScanLaws.{grow-scan, shrink-scan}
-use Rattle.store.proofs.FindLaws.{not-held, is_held, HeldCell}
-use Rattle.store.proofs.ShowLaws.{faults-long}
+use Rattle.reads.proofs.AlongLaws.{follow_length}
+use Rattle.reads.proofs.StoredLaws.{bucket_ends, bucket_cells_lem, read_store}
+use Rattle.store.proofs.ScanLaws.{grow_scan_lem, shrink_scan_lem}
+use Rattle.store.proofs.FindLaws.{not_held_lem, is_held, HeldCell}
+use Rattle.store.proofs.ShowLaws.{faults_long}
 
 module _ {w : List ℕ} (e : sound w ≡ true) {h : Header} (q : Read w h) where
   -- the header
 
-  shape_is : (decode w).shape ≡ shapeIn h
-  shape_is = (read-store q).0
+  shape_is : (decode w).shape ≡ shape_in h
+  shape_is = (read_store q).0
 
-  top-is : topOf (decode w).shape ≡ h.top
-  top-is = ap topOf shape_is ∙ sym q.sized.top
+  top_is : top_of (decode w).shape ≡ h.top
+  top_is = ap top_of shape_is ∙ sym q.sized.top
 
-  state-is : State h.top h.maxp h.p
-  state-is = state-of h.top h.maxp h.p (rw (top-is, (read-store q).1, (read-store q).2) at (sound-is w e).0.fair.state)
+  state_is : State h.top h.maxp h.p
+  state_is = state_of h.top h.maxp h.p (rw (top_is, (read_store q).1, (read_store q).2) at (sound_is w e).0.fair.state)
 
   pub size_room : (least ≤ h.maxp + h.p) × (h.maxp + h.p ≤ h.top) × (h.p < h.maxp)
-  size_room = (omega (arith, size_low state-is.size), state-is.room, state-is.below)
+  size_room = (omega (arith, size_low state_is.size), state_is.room, state_is.below)
 
-  pub held_word : get_or w held_at 0 ≡ held (decode w)
-  held_word = held-at w (decode w) (sound-is w e).0
+  pub held_word_lem : get_or w held_at 0 ≡ held (decode w)
+  held_word_lem = held_at_lem w (decode w) (sound_is w e).0
 
-  pub filed-word : get_or w faultsHeldAt 0 ≡ faultsHeld (decode w)
-  filed-word = faults-held-at w (decode w) (sound-is w e).0
+  pub filed_word : get_or w faults_held_at 0 ≡ faults_held (decode w)
+  filed_word = faults_held_at_lem w (decode w) (sound_is w e).0
 
-  pub held-room : get_or w held_at 0 ≤ cardsEver
-  held-room = omega (arith, held_word, cards-fit (decode w) (sound-good w e).0, ap (λ (sh : Shape). sh.limit) shape_is, q.sized.room)
+  pub held_room : get_or w held_at 0 ≤ cards_ever
+  held_room = omega (arith, held_word_lem, cards_fit (decode w) (sound_good w e).0, ap (λ (sh : Shape). sh.limit) shape_is, q.sized.room)
 
   -- a bucket
 
   module _ {b : ℕ} (k : b < h.maxp + h.p) where
     within : b < length (decode w).buckets
-    within = omega (arith, (sound-is w e).0.fair.number, (read-store q).1, (read-store q).2)
+    within = omega (arith, (sound_is w e).0.fair.number, (read_store q).1, (read_store q).2)
 
-    pub bucket-below : b < h.top
-    bucket-below = omega (arith, size_room.1)
+    pub bucket_below : b < h.top
+    bucket_below = omega (arith, size_room.1)
 
-    pub bucket-chain : Ends h.cards (nextCard (shapeIn h) w) (get_or w (segmentsAt (shapeIn h) + b) 0)
-    bucket-chain = subst (λ (sh : Shape). Ends sh.limit (nextCard sh w) (get_or w (segmentsAt sh + b) 0)) shape_is (bucket-ends (sound-is w e).0 b within)
+    pub bucket_chain : Ends h.cards (next_card (shape_in h) w) (get_or w (segments_at (shape_in h) + b) 0)
+    bucket_chain = subst (λ (sh : Shape). Ends sh.limit (next_card sh w) (get_or w (segments_at sh + b) 0)) shape_is (bucket_ends (sound_is w e).0 b within)
 
-    pub bucket-length : length (follow h.cards (nextCard (shapeIn h) w) (get_or w (segmentsAt (shapeIn h) + b) 0)) ≡ length (bucket (decode w) b)
-    bucket-length =
-        ap (λ (sh : Shape). length (follow sh.limit (nextCard sh w) (get_or w (segmentsAt sh + b) 0))) (sym shape_is)
-        ∙ ap length (bucket-cells (sound-is w e).0 b within) ∙ length-map (bucket (decode w) b) (λ (x : Card). x.at)
+    pub bucket_length : length (follow h.cards (next_card (shape_in h) w) (get_or w (segments_at (shape_in h) + b) 0)) ≡ length (bucket (decode w) b)
+    bucket_length =
+        ap (λ (sh : Shape). length (follow sh.limit (next_card sh w) (get_or w (segments_at sh + b) 0))) (sym shape_is)
+        ∙ ap length (bucket_cells_lem (sound_is w e).0 b within) ∙ length-map (bucket (decode w) b) (λ (x : Card). x.at)
 
-    pub bucket-room : length (bucket (decode w) b) ≤ cardsEver
-    bucket-room = omega (arith, bucket-length, follow-length h.cards (nextCard (shapeIn h) w) (get_or w (segmentsAt (shapeIn h) + b) 0), q.sized.room)
+    pub bucket_room : length (bucket (decode w) b) ≤ cards_ever
+    bucket_room = omega (arith, bucket_length, follow_length h.cards (next_card (shape_in h) w) (get_or w (segments_at (shape_in h) + b) 0), q.sized.room)
 
   -- a card that is held
 
-  pub held-history : {y : List ℕ} {i : ℕ} → HeldCell w y h i → length (historyIn (decode w) y) ≤ faultsEver
-  held-history {y} {i} k =
-      omega (arith, ap length k.history, faults-long (shapeIn h) w (cardWord (shapeIn h) w i toFirst), follow-length h.faults (nextFault (shapeIn h) w) (cardWord (shapeIn h) w i toFirst), q.sized.room)
+  pub held_history : {y : List ℕ} {i : ℕ} → HeldCell w y h i → length (history_in (decode w) y) ≤ faults_ever
+  held_history {y} {i} k =
+      omega (arith, ap length k.history, faults_long (shape_in h) w (card_word (shape_in h) w i to_first), follow_length h.faults (next_fault (shape_in h) w) (card_word (shape_in h) w i to_first), q.sized.room)
 
   -- the scans
 
   upper_is : (decode w).shape.upper ≡ h.upper
   upper_is = ap (λ (sh : Shape). sh.upper) shape_is
 
-  lower-is : (decode w).shape.lower ≡ h.lower
-  lower-is = ap (λ (sh : Shape). sh.lower) shape_is
+  lower_is : (decode w).shape.lower ≡ h.lower
+  lower_is = ap (λ (sh : Shape). sh.lower) shape_is
 
   module _ (b : ℕ) where
-    pub grow-none : splits h.top h.upper (get_or w held_at 0 + 1) (h.maxp + h.p) ≡ false → 0 ≡ growScan (decode w) b
-    unfolding growScan
-    grow-none t = rw (← held_word, top-is, upper_is, (read-store q).1, (read-store q).2, t)
+    pub grow_none : splits h.top h.upper (get_or w held_at 0 + 1) (h.maxp + h.p) ≡ false → 0 ≡ grow_scan (decode w) b
+    unfolding grow_scan
+    grow_none t = rw (← held_word_lem, top_is, upper_is, (read_store q).1, (read_store q).2, t)
 
-    pub grow-some : splits h.top h.upper (get_or w held_at 0 + 1) (h.maxp + h.p) ≡ true → length (bucket (decode w) h.p) + cond (eqb b h.p) 1 0 ≡ growScan (decode w) b
-    unfolding growScan
-    grow-some t = rw (← held_word, top-is, upper_is, (read-store q).1, (read-store q).2, t)
+    pub grow_some : splits h.top h.upper (get_or w held_at 0 + 1) (h.maxp + h.p) ≡ true → length (bucket (decode w) h.p) + cond (eqb b h.p) 1 0 ≡ grow_scan (decode w) b
+    unfolding grow_scan
+    grow_some t = rw (← held_word_lem, top_is, upper_is, (read_store q).1, (read_store q).2, t)
 
-    pub shrink-none : contracts h.lower (get_or w held_at 0 - 1) (h.maxp + h.p) ≡ false → 0 ≡ shrinkScan (decode w) b
-    unfolding shrinkScan
-    shrink-none t = rw (← held_word, lower-is, (read-store q).1, (read-store q).2, t)
+    pub shrink_none : contracts h.lower (get_or w held_at 0 - 1) (h.maxp + h.p) ≡ false → 0 ≡ shrink_scan (decode w) b
+    unfolding shrink_scan
+    shrink_none t = rw (← held_word_lem, lower_is, (read_store q).1, (read_store q).2, t)
 
-    pub shrink-some : contracts h.lower (get_or w held_at 0 - 1) (h.maxp + h.p) ≡ true
-        → length (bucket (decode w) (h.maxp + h.p - 1)) - cond (eqb b (h.maxp + h.p - 1)) 1 0 ≡ shrinkScan (decode w) b
-    unfolding shrinkScan
-    shrink-some t = rw (← held_word, lower-is, (read-store q).1, (read-store q).2, t)
+    pub shrink_some : contracts h.lower (get_or w held_at 0 - 1) (h.maxp + h.p) ≡ true
+        → length (bucket (decode w) (h.maxp + h.p - 1)) - cond (eqb b (h.maxp + h.p - 1)) 1 0 ≡ shrink_scan (decode w) b
+    unfolding shrink_scan
+    shrink_some t = rw (← held_word_lem, lower_is, (read_store q).1, (read_store q).2, t)
 
 -- the two kinds of plans
 
 module _ {w : List ℕ} {h : Header} (q : Read w h) (bytes : List ℕ) (n : ℕ) {a : Answer} where
-  plan-refused : (k place faults : ℕ) → a ≡ gives (suc k) place 0 faults → Plans a w bytes n (refusedPlan h (suc k) place faults)
-  plan-refused k place faults g =
-      rw g (record { answer = record { number_is = refl; comparisons-are = refl; scanned-is = refl; faults-are = refl }; header = q; places = λ z. absurd (omega arith) })
+  plan_refused : (k place faults : ℕ) → a ≡ gives (suc k) place 0 faults → Plans a w bytes n (refused_plan h (suc k) place faults)
+  plan_refused k place faults g =
+      rw g (record { answer = record { number_is = refl; comparisons_are = refl; scanned_is = refl; faults_are = refl }; header = q; places = λ z. absurd (omega arith) })
 
-  plan-accepted : validSerial bytes n ≡ true → {o : Spot} → Finds (decode w) (take n bytes) o → (scan faults : ℕ) → a ≡ gives 0 o.place scan faults → Plans a w bytes n (acceptedPlan h o scan faults)
-  plan-accepted v f scan faults g =
+  plan_accepted : valid_serial bytes n ≡ true → {o : Spot} → Finds (decode w) (take n bytes) o → (scan faults : ℕ) → a ≡ gives 0 o.place scan faults → Plans a w bytes n (accepted_plan h o scan faults)
+  plan_accepted v f scan faults g =
       rw g (record {
-        answer = record { number_is = refl; comparisons-are = refl; scanned-is = refl; faults-are = refl };
+        answer = record { number_is = refl; comparisons_are = refl; scanned_is = refl; faults_are = refl };
         header = q;
-        places = λ z. record { valid = v; bucket-is = f.bucket-is; cell-is = f.cell-is; prev-is = f.prev-is };
+        places = λ z. record { valid = v; bucket_is = f.bucket_is; cell_is = f.cell_is; prev_is = f.prev_is };
       })
 
 -- a call that is refused before its serial is looked for
 module _ {w : List ℕ} (bytes : List ℕ) (n : ℕ) {a : Answer} {r : Plan} where
-  plan-refused-early : (k : ℕ) → Gives (gives (suc k) 0 0 0) (answered r) × Read w r.header → a ≡ gives (suc k) 0 0 0 → Plans a w bytes n r
-  plan-refused-early k t g = rw g (record { answer = t.0; header = t.1; places = λ z. absurd (omega (arith, t.0.number_is)) })
+  plan_refused_early : (k : ℕ) → Gives (gives (suc k) 0 0 0) (answered r) × Read w r.header → a ≡ gives (suc k) 0 0 0 → Plans a w bytes n r
+  plan_refused_early k t g = rw g (record { answer = t.0; header = t.1; places = λ z. absurd (omega (arith, t.0.number_is)) })
 
 -- the header of a plan for any room of so many words
-pub plans-header : {step : List ℕ → Step} {room : ℕ} {w bytes : List ℕ} {n : ℕ} {r : Plan} → PlansFor step room w bytes n r → Read w r.header
-plans-header {room = room} p = (p.with-room (replicate room 0) (length-replicate {A = ℕ} room 0)).header
+pub plans_header : {step : List ℕ → Step} {room : ℕ} {w bytes : List ℕ} {n : ℕ} {r : Plan} → PlansFor step room w bytes n r → Read w r.header
+plans_header {room = room} p = (p.with_room (replicate room 0) (length-replicate {A = ℕ} room 0)).header
 
 -- the ways out of each plan
 
 -- 4 and 5
 module _ (w : List ℕ) (bytes : List ℕ) (n : ℕ) {r : Plan} where
-  module _ (t : Gives (gives 4 0 0 0) (answered r) × Read w r.header) (v : validSerial bytes n ≡ false) where
-    pub enter-invalid : Plans (enterStep (decode w) bytes n).answer w bytes n r
-    unfolding enterStep
-    enter-invalid = plan-refused-early bytes n 3 t (rw v)
+  module _ (t : Gives (gives 4 0 0 0) (answered r) × Read w r.header) (v : valid_serial bytes n ≡ false) where
+    pub enter_invalid : Plans (enter_step (decode w) bytes n).answer w bytes n r
+    unfolding enter_step
+    enter_invalid = plan_refused_early bytes n 3 t (rw v)
 
-    pub file-invalid : (day code : ℕ) → Plans (fileStep (decode w) bytes n day code).answer w bytes n r
-    unfolding fileStep
-    file-invalid day code = plan-refused-early bytes n 3 t (rw v)
+    pub file_invalid : (day code : ℕ) → Plans (file_step (decode w) bytes n day code).answer w bytes n r
+    unfolding file_step
+    file_invalid day code = plan_refused_early bytes n 3 t (rw v)
 
-    pub pairs-invalid : (room : ℕ) → PlansFor (showStep (decode w) bytes n) room w bytes n r
-    unfolding showStep
-    pairs-invalid room = record { with-room = λ given l. plan-refused-early bytes n 3 t (rw v) }
+    pub pairs_invalid : (room : ℕ) → PlansFor (show_step (decode w) bytes n) room w bytes n r
+    unfolding show_step
+    pairs_invalid room = record { with_room = λ given l. plan_refused_early bytes n 3 t (rw v) }
 
-    pub withdraw-invalid : (room : ℕ) → PlansFor (withdrawStep (decode w) bytes n) room w bytes n r
-    unfolding withdrawStep
-    withdraw-invalid room = record { with-room = λ given l. plan-refused-early bytes n 3 t (rw v) }
+    pub withdraw_invalid : (room : ℕ) → PlansFor (withdraw_step (decode w) bytes n) room w bytes n r
+    unfolding withdraw_step
+    withdraw_invalid room = record { with_room = λ given l. plan_refused_early bytes n 3 t (rw v) }
 
-  pub file-bad : Gives (gives 5 0 0 0) (answered r) × Read w r.header → validSerial bytes n ≡ true → (day code : ℕ) → validFault day code ≡ false
-      → Plans (fileStep (decode w) bytes n day code).answer w bytes n r
-  unfolding fileStep
-  file-bad t v day code u = plan-refused-early bytes n 4 t (rw (v, u))
+  pub file_bad : Gives (gives 5 0 0 0) (answered r) × Read w r.header → valid_serial bytes n ≡ true → (day code : ℕ) → valid_fault day code ≡ false
+      → Plans (file_step (decode w) bytes n day code).answer w bytes n r
+  unfolding file_step
+  file_bad t v day code u = plan_refused_early bytes n 4 t (rw (v, u))
 
 -- behind the search
 module _ (w : List ℕ) (e : sound w ≡ true) {h : Header} (q : Read w h) (bytes : List ℕ) (n : ℕ) where
-  module _ (v : validSerial bytes n ≡ true) where
+  module _ (v : valid_serial bytes n ≡ true) where
     module _ {o : Spot} (f : Finds (decode w) (take n bytes) o) where
       -- no card has the serial
       module _ (z : o.held ≡ false) where
-        none : length (found (take n bytes) (chainFor (decode w) (take n bytes))) ≡ 0
-        none = ap length (not-held (sound-is w e).0 (take n bytes) f z).absent.none
+        none : length (found (take n bytes) (chain_for (decode w) (take n bytes))) ≡ 0
+        none = ap length (not_held_lem (sound_is w e).0 (take n bytes) f z).absent.none
 
-        pub enter-full : held (decode w) ≡ (decode w).shape.limit → Plans (enterStep (decode w) bytes n).answer w bytes n (refusedPlan h 8 o.place 0)
-        unfolding enterStep
-        enter-full k = plan-refused q bytes n 7 o.place 0 (rw (v, none, f.place_is, eq-eqb (held (decode w)) (decode w).shape.limit k))
+        pub enter_full : held (decode w) ≡ (decode w).shape.limit → Plans (enter_step (decode w) bytes n).answer w bytes n (refused_plan h 8 o.place 0)
+        unfolding enter_step
+        enter_full k = plan_refused q bytes n 7 o.place 0 (rw (v, none, f.place_is, eq-eqb (held (decode w)) (decode w).shape.limit k))
 
-        pub enter-accepted : (held (decode w) ≡ (decode w).shape.limit → ⊥)
-            → Plans (enterStep (decode w) bytes n).answer w bytes n (acceptedPlan h o (growScan (decode w) o.bucket) 0)
-        unfolding enterStep
-        enter-accepted k =
-            plan-accepted q bytes n v f (growScan (decode w) o.bucket) 0
-            (rw (v, none, f.place_is, f.bucket-is, grow-scan (decode w) (sound-is w e).0.fair (take n bytes), ne_eqb (held (decode w)) (decode w).shape.limit k))
+        pub enter_accepted : (held (decode w) ≡ (decode w).shape.limit → ⊥)
+            → Plans (enter_step (decode w) bytes n).answer w bytes n (accepted_plan h o (grow_scan (decode w) o.bucket) 0)
+        unfolding enter_step
+        enter_accepted k =
+            plan_accepted q bytes n v f (grow_scan (decode w) o.bucket) 0
+            (rw (v, none, f.place_is, f.bucket_is, grow_scan_lem (decode w) (sound_is w e).0.fair (take n bytes), ne_eqb (held (decode w)) (decode w).shape.limit k))
 
-        pub file-missing : (day code : ℕ) → validFault day code ≡ true → Plans (fileStep (decode w) bytes n day code).answer w bytes n (refusedPlan h 7 o.place 0)
-        unfolding fileStep
-        file-missing day code u = plan-refused q bytes n 6 o.place 0 (rw (v, u, none, f.place_is))
+        pub file_missing : (day code : ℕ) → valid_fault day code ≡ true → Plans (file_step (decode w) bytes n day code).answer w bytes n (refused_plan h 7 o.place 0)
+        unfolding file_step
+        file_missing day code u = plan_refused q bytes n 6 o.place 0 (rw (v, u, none, f.place_is))
 
-        pub pairs-missing : (room : ℕ) → PlansFor (showStep (decode w) bytes n) room w bytes n (refusedPlan h 7 o.place 0)
-        unfolding showStep
-        pairs-missing room = record { with-room = λ given l. plan-refused q bytes n 6 o.place 0 (rw (v, none, f.place_is)) }
+        pub pairs_missing : (room : ℕ) → PlansFor (show_step (decode w) bytes n) room w bytes n (refused_plan h 7 o.place 0)
+        unfolding show_step
+        pairs_missing room = record { with_room = λ given l. plan_refused q bytes n 6 o.place 0 (rw (v, none, f.place_is)) }
 
       -- one has it
       module _ (z : o.held ≡ true) where
-        one : length (found (take n bytes) (chainFor (decode w) (take n bytes))) ≡ 1
-        one = ap length (is_held (sound-is w e).0 (take n bytes) f z).present.only
+        one : length (found (take n bytes) (chain_for (decode w) (take n bytes))) ≡ 1
+        one = ap length (is_held (sound_is w e).0 (take n bytes) f z).present.only
 
-        pub enter-held : Plans (enterStep (decode w) bytes n).answer w bytes n (refusedPlan h 6 o.place 0)
-        unfolding enterStep
-        enter-held = plan-refused q bytes n 5 o.place 0 (rw (v, one, f.place_is))
+        pub enter_held : Plans (enter_step (decode w) bytes n).answer w bytes n (refused_plan h 6 o.place 0)
+        unfolding enter_step
+        enter_held = plan_refused q bytes n 5 o.place 0 (rw (v, one, f.place_is))
 
-        module _ (day code : ℕ) (u : validFault day code ≡ true) where
-          pub file-full : faultsHeld (decode w) ≡ (decode w).shape.faultLimit → Plans (fileStep (decode w) bytes n day code).answer w bytes n (refusedPlan h 9 o.place 0)
-          unfolding fileStep
-          file-full k = plan-refused q bytes n 8 o.place 0 (rw (v, u, one, f.place_is, eq-eqb (faultsHeld (decode w)) (decode w).shape.faultLimit k))
+        module _ (day code : ℕ) (u : valid_fault day code ≡ true) where
+          pub file_full : faults_held (decode w) ≡ (decode w).shape.fault_limit → Plans (file_step (decode w) bytes n day code).answer w bytes n (refused_plan h 9 o.place 0)
+          unfolding file_step
+          file_full k = plan_refused q bytes n 8 o.place 0 (rw (v, u, one, f.place_is, eq-eqb (faults_held (decode w)) (decode w).shape.fault_limit k))
 
-          pub file-accepted : (faultsHeld (decode w) ≡ (decode w).shape.faultLimit → ⊥) → (count : ℕ) → count ≡ length (historyIn (decode w) (take n bytes))
-              → Plans (fileStep (decode w) bytes n day code).answer w bytes n (acceptedPlan h o 0 (count + 1))
-          unfolding fileStep
-          file-accepted k count l =
-              plan-accepted q bytes n v f 0 (count + 1) (rw (v, u, one, f.place_is, l, ne_eqb (faultsHeld (decode w)) (decode w).shape.faultLimit k))
+          pub file_accepted : (faults_held (decode w) ≡ (decode w).shape.fault_limit → ⊥) → (count : ℕ) → count ≡ length (history_in (decode w) (take n bytes))
+              → Plans (file_step (decode w) bytes n day code).answer w bytes n (accepted_plan h o 0 (count + 1))
+          unfolding file_step
+          file_accepted k count l =
+              plan_accepted q bytes n v f 0 (count + 1) (rw (v, u, one, f.place_is, l, ne_eqb (faults_held (decode w)) (decode w).shape.fault_limit k))
 
-        module _ (room count : ℕ) (l : count ≡ length (historyIn (decode w) (take n bytes))) where
-          pub pairs_small : room < 2 * count → PlansFor (showStep (decode w) bytes n) room w bytes n (refusedPlan h 10 o.place count)
-          unfolding showStep
+        module _ (room count : ℕ) (l : count ≡ length (history_in (decode w) (take n bytes))) where
+          pub pairs_small : room < 2 * count → PlansFor (show_step (decode w) bytes n) room w bytes n (refused_plan h 10 o.place count)
+          unfolding show_step
           pairs_small b =
-              record { with-room = λ given k. plan-refused q bytes n 9 o.place count (rw (v, one, f.place_is, l, lt-ltb (length given) (2 * length (historyIn (decode w) (take n bytes))) (omega arith))) }
+              record { with_room = λ given k. plan_refused q bytes n 9 o.place count (rw (v, one, f.place_is, l, lt-ltb (length given) (2 * length (history_in (decode w) (take n bytes))) (omega arith))) }
 
-          pub pairs-accepted : 2 * count ≤ room → PlansFor (showStep (decode w) bytes n) room w bytes n (acceptedPlan h o 0 count)
-          unfolding showStep
-          pairs-accepted b =
-              record { with-room = λ given k. plan-accepted q bytes n v f 0 count (rw (v, one, f.place_is, l, le-ltb (length given) (2 * length (historyIn (decode w) (take n bytes))) (omega arith))) }
+          pub pairs_accepted : 2 * count ≤ room → PlansFor (show_step (decode w) bytes n) room w bytes n (accepted_plan h o 0 count)
+          unfolding show_step
+          pairs_accepted b =
+              record { with_room = λ given k. plan_accepted q bytes n v f 0 count (rw (v, one, f.place_is, l, le-ltb (length given) (2 * length (history_in (decode w) (take n bytes))) (omega arith))) }
 
 -- Withdraw by the plan of Show
 module _ (s : Store) (bytes : List ℕ) (n : ℕ) (room : List ℕ) where
-  same-refused : ((showStep s bytes n room).answer.number ≡ 0 → ⊥) → (withdrawStep s bytes n room).answer ≡ (showStep s bytes n room).answer
-  unfolding showStep withdrawStep
-  same-refused z =
+  same_refused : ((show_step s bytes n room).answer.number ≡ 0 → ⊥) → (withdraw_step s bytes n room).answer ≡ (show_step s bytes n room).answer
+  unfolding show_step withdraw_step
+  same_refused z =
       let y = take n bytes in
-      by_cases (validSerial bytes n)
-      (λ v. by_cases (eqb (length (found y (chainFor s y))) 0)
+      by_cases (valid_serial bytes n)
+      (λ v. by_cases (eqb (length (found y (chain_for s y))) 0)
       (λ k. rw (v, k))
-      (λ k. by_cases (ltb (length room) (2 * length (historyIn s y))) (λ b. rw (v, k, b)) (λ b. absurd (z (rw (v, k, b))))))
+      (λ k. by_cases (ltb (length room) (2 * length (history_in s y))) (λ b. rw (v, k, b)) (λ b. absurd (z (rw (v, k, b))))))
       (λ v. rw v)
 
-  same-done : Good s → (showStep s bytes n room).answer.number ≡ 0
-      → ((withdrawStep s bytes n room).answer ≡ gives 0 (showStep s bytes n room).answer.comparisons (contractScan (removed s (take n bytes))) (showStep s bytes n room).answer.faults)
-      × (length (found (take n bytes) (chainFor s (take n bytes))) ≡ 1)
-  unfolding showStep withdrawStep
-  same-done g z =
-      let (v, l, b) = (show-numbers s bytes n room g).done.0 z in
-      (rw (v, l, le-ltb (length room) (2 * length (historyIn s (take n bytes))) b), l)
+  same_done : Good s → (show_step s bytes n room).answer.number ≡ 0
+      → ((withdraw_step s bytes n room).answer ≡ gives 0 (show_step s bytes n room).answer.comparisons (contract_scan (removed s (take n bytes))) (show_step s bytes n room).answer.faults)
+      × (length (found (take n bytes) (chain_for s (take n bytes))) ≡ 1)
+  unfolding show_step withdraw_step
+  same_done g z =
+      let (v, l, b) = (show_numbers s bytes n room g).done.0 z in
+      (rw (v, l, le-ltb (length room) (2 * length (history_in s (take n bytes))) b), l)
 
-module _ (w : List ℕ) (e : sound w ≡ true) (bytes : List ℕ) (n room : ℕ) (r : Plan) (p : PlansFor (showStep (decode w) bytes n) room w bytes n r) where
-  pub withdraw-refused : (r.number ≡ 0 → ⊥) → PlansFor (withdrawStep (decode w) bytes n) room w bytes n r
-  withdraw-refused z =
-      record { with-room = λ given l. let q = p.with-room given l in rw (same-refused (decode w) bytes n given (λ k. z (q.answer.number_is ∙ k))) q }
+module _ (w : List ℕ) (e : sound w ≡ true) (bytes : List ℕ) (n room : ℕ) (r : Plan) (p : PlansFor (show_step (decode w) bytes n) room w bytes n r) where
+  pub withdraw_refused : (r.number ≡ 0 → ⊥) → PlansFor (withdraw_step (decode w) bytes n) room w bytes n r
+  withdraw_refused z =
+      record { with_room = λ given l. let q = p.with_room given l in rw (same_refused (decode w) bytes n given (λ k. z (q.answer.number_is ∙ k))) q }
 
-  pub withdraw-accepted : r.number ≡ 0 → (scan : ℕ) → scan ≡ shrinkScan (decode w) r.bucket
-      → PlansFor (withdrawStep (decode w) bytes n) room w bytes n
+  pub withdraw_accepted : r.number ≡ 0 → (scan : ℕ) → scan ≡ shrink_scan (decode w) r.bucket
+      → PlansFor (withdraw_step (decode w) bytes n) room w bytes n
       (record { number = 0; comparisons = r.comparisons; scanned = scan; faults = r.faults; bucket = r.bucket; cell = r.cell; prev = r.prev; header = r.header })
-  withdraw-accepted z scan k = record { with-room = λ given l. go given (p.with-room given l) }
+  withdraw_accepted z scan k = record { with_room = λ given l. go given (p.with_room given l) }
     where
-      go : (given : List ℕ) → Plans (showStep (decode w) bytes n given).answer w bytes n r → Plans (withdrawStep (decode w) bytes n given).answer w bytes n
+      go : (given : List ℕ) → Plans (show_step (decode w) bytes n given).answer w bytes n r → Plans (withdraw_step (decode w) bytes n given).answer w bytes n
           (record { number = 0; comparisons = r.comparisons; scanned = scan; faults = r.faults; bucket = r.bucket; cell = r.cell; prev = r.prev; header = r.header })
       go given q =
-          let d = same-done (decode w) bytes n given (sound-good w e).0 (sym q.answer.number_is ∙ z) in
+          let d = same_done (decode w) bytes n given (sound_good w e).0 (sym q.answer.number_is ∙ z) in
           let o = q.places z in
           rw d.0 (record {
             answer = record {
               number_is = refl;
-              comparisons-are = q.answer.comparisons-are;
-              scanned-is = k ∙ ap (shrinkScan (decode w)) o.bucket-is ∙ sym (shrink-scan (decode w) (sound-is w e).0.fair (take n bytes) d.1);
-              faults-are = q.answer.faults-are;
+              comparisons_are = q.answer.comparisons_are;
+              scanned_is = k ∙ ap (shrink_scan (decode w)) o.bucket_is ∙ sym (shrink_scan_lem (decode w) (sound_is w e).0.fair (take n bytes) d.1);
+              faults_are = q.answer.faults_are;
             };
             header = q.header;
-            places = λ _. record { valid = o.valid; bucket-is = o.bucket-is; cell-is = o.cell-is; prev-is = o.prev-is };
+            places = λ _. record { valid = o.valid; bucket_is = o.bucket_is; cell_is = o.cell_is; prev_is = o.prev_is };
           })

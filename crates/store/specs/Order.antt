@@ -8,9 +8,9 @@ abbrev pub place_in : ℕ → Card → At
 place_in b c = record { bucket = b; cell = c.at }
 
 -- the places of the cards of some buckets, the first of which is bucket b
-unfoldable pub placesFrom : ℕ → List (List Card) → List At
-placesFrom b [] = []
-placesFrom b (cs ∷ bs) = map (place_in b) cs ++ placesFrom (suc b) bs
+unfoldable pub places_from : ℕ → List (List Card) → List At
+places_from b [] = []
+places_from b (cs ∷ bs) = map (place_in b) cs ++ places_from (suc b) bs
 
 -- past the last card: no bucket, and cell 0
 abbrev pub past : Store → At
@@ -18,11 +18,11 @@ past s = record { bucket = size s; cell = 0 }
 
 -- the place of card n, from 0 on
 unfoldable pub place_of : Store → ℕ → At
-place_of s n = get_or (placesFrom 0 s.buckets) n (past s)
+place_of s n = get_or (places_from 0 s.buckets) n (past s)
 
 -- the first place of the buckets from b on
-unfoldable pub headFrom : Store → ℕ → At
-headFrom s b = get_or (placesFrom b (drop b s.buckets)) 0 (past s)
+unfoldable pub head_from : Store → ℕ → At
+head_from s b = get_or (places_from b (drop b s.buckets)) 0 (past s)
 
 -- a place is that of a card
 pub record Comes (s : Store) (at : At) : Type 0 where
@@ -32,4 +32,4 @@ pub record Comes (s : Store) (at : At) : Type 0 where
 
 -- a place comes behind another, whichever card that is
 pub record Follows (s : Store) (at next : At) : Type 0 where
-  pub next-is : (n : ℕ) → n < held s → at ≡ place_of s n → next ≡ place_of s (suc n)
+  pub next_is : (n : ℕ) → n < held s → at ≡ place_of s n → next ≡ place_of s (suc n)

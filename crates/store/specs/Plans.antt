@@ -2,11 +2,11 @@
 -- was read and the places in the store that the change will touch.
 use Rattle.std.specs.Prelude.{◌≡◌, true, cond, List, ℕ, ◌+◌, ◌-◌, ◌*◌, ◌≤◌, eqb, length, take}
 use Rattle.rules.specs.Table.{splits, contracts}
-use Rattle.model.specs.Serial.{validSerial}
-use Rattle.model.specs.Shape.{topOf}
-use Rattle.model.specs.Model.{Store, held, size, bucket, addressIn, chainFor, found, before, cells_of, historyIn}
+use Rattle.model.specs.Serial.{valid_serial}
+use Rattle.model.specs.Shape.{top_of}
+use Rattle.model.specs.Model.{Store, held, size, bucket, address_in, chain_for, found, before, cells_of, history_in}
 use Rattle.model.specs.Layout.{first, last, encode, decode}
-use Rattle.model.specs.Calls.{Answer, Step, written, fileStep}
+use Rattle.model.specs.Calls.{Answer, Step, written, file_step}
 use Rattle.reads.specs.Cells.{Read}
 use Rattle.store.specs.Leaves.{Gives}
 use Rattle.store.specs.declared.answer.Answer as given
@@ -15,19 +15,19 @@ use Rattle.store.specs.declared.plans.Plan.{Plan}
 use Rattle.store.specs.declared.search.Spot.{Spot}
 
 -- with one card more in bucket b: the length of bucket p, if that load splits it
-unfoldable pub growScan : Store → ℕ → ℕ
-growScan s b = cond (splits (topOf s.shape) s.shape.upper (held s + 1) (size s)) (length (bucket s s.p) + cond (eqb b s.p) 1 0) 0
+unfoldable pub grow_scan : Store → ℕ → ℕ
+grow_scan s b = cond (splits (top_of s.shape) s.shape.upper (held s + 1) (size s)) (length (bucket s s.p) + cond (eqb b s.p) 1 0) 0
 
 -- with one card less in bucket b: the length of the last bucket, if that load joins it
-unfoldable pub shrinkScan : Store → ℕ → ℕ
-shrinkScan s b = cond (contracts s.shape.lower (held s - 1) (size s)) (length (bucket s (size s - 1)) - cond (eqb b (size s - 1)) 1 0) 0
+unfoldable pub shrink_scan : Store → ℕ → ℕ
+shrink_scan s b = cond (contracts s.shape.lower (held s - 1) (size s)) (length (bucket s (size s - 1)) - cond (eqb b (size s - 1)) 1 0) 0
 
 -- a plan that refuses, with no place; and one that goes ahead at a spot
-abbrev pub refusedPlan : Header → ℕ → ℕ → ℕ → Plan
-refusedPlan h number place faults = record { number = number; comparisons = place; scanned = 0; faults = faults; bucket = 0; cell = 0; prev = 0; header = h }
+abbrev pub refused_plan : Header → ℕ → ℕ → ℕ → Plan
+refused_plan h number place faults = record { number = number; comparisons = place; scanned = 0; faults = faults; bucket = 0; cell = 0; prev = 0; header = h }
 
-abbrev pub acceptedPlan : Header → Spot → ℕ → ℕ → Plan
-acceptedPlan h o scanned faults = record { number = 0; comparisons = o.place; scanned = scanned; faults = faults; bucket = o.bucket; cell = o.cell; prev = o.prev; header = h }
+abbrev pub accepted_plan : Header → Spot → ℕ → ℕ → Plan
+accepted_plan h o scanned faults = record { number = 0; comparisons = o.place; scanned = scanned; faults = faults; bucket = o.bucket; cell = o.cell; prev = o.prev; header = h }
 
 -- the answer that a plan has
 abbrev pub answered : Plan → given.Answer
@@ -36,10 +36,10 @@ answered r = record { number = r.number; comparisons = r.comparisons; scanned = 
 -- the places of a valid serial: its bucket, the cell of its card or 0, and the cell before that, which is the chain's last where no card has
 -- the serial
 pub record Places (s : Store) (bytes : List ℕ) (n : ℕ) (r : Plan) : Type 0 where
-  pub valid : validSerial bytes n ≡ true
-  pub bucket-is : r.bucket ≡ addressIn s (take n bytes)
-  pub cell-is : r.cell ≡ first (cells_of (found (take n bytes) (chainFor s (take n bytes))))
-  pub prev-is : r.prev ≡ last (cells_of (before (take n bytes) (chainFor s (take n bytes))))
+  pub valid : valid_serial bytes n ≡ true
+  pub bucket_is : r.bucket ≡ address_in s (take n bytes)
+  pub cell_is : r.cell ≡ first (cells_of (found (take n bytes) (chain_for s (take n bytes))))
+  pub prev_is : r.prev ≡ last (cells_of (before (take n bytes) (chain_for s (take n bytes))))
 
 -- a plan on the words w for the first n of some bytes: the four numbers of an answer, the header of the words, and the places where it
 -- refuses nothing
@@ -50,11 +50,11 @@ pub record Plans (a : Answer) (w : List ℕ) (bytes : List ℕ) (n : ℕ) (r : P
 
 -- the same with any room of so many words: it enters the answer by its length alone
 pub record PlansFor (step : List ℕ → Step) (room : ℕ) (w : List ℕ) (bytes : List ℕ) (n : ℕ) (r : Plan) : Type 0 where
-  pub with-room : (given : List ℕ) → length given ≡ room → Plans (step given).answer w bytes n r
+  pub with_room : (given : List ℕ) → length given ≡ room → Plans (step given).answer w bytes n r
 
 -- File of a serial, as a step that takes a room and leaves it alone
-abbrev pub fileWith : Store → ℕ → ℕ → List ℕ → ℕ → List ℕ → Step
-fileWith s day code bytes n room = fileStep s bytes n day code
+abbrev pub file_with : Store → ℕ → ℕ → List ℕ → ℕ → List ℕ → Step
+file_with s day code bytes n room = file_step s bytes n day code
 
 -- a plan that goes ahead, of some serial and some room
 pub record Ready (step : List ℕ → ℕ → List ℕ → Step) (w : List ℕ) (r : Plan) : Type 0 where
@@ -74,9 +74,9 @@ pub record Holds (w : List ℕ) (r : Plan) (room : List ℕ) : Type 0 where
   pub n : ℕ
   pub header : Read w r.header
   pub places : Places (decode w) bytes n r
-  pub one : length (found (take n bytes) (chainFor (decode w) (take n bytes))) ≡ 1
-  pub wide : 2 * length (historyIn (decode w) (take n bytes)) ≤ length room
+  pub one : length (found (take n bytes) (chain_for (decode w) (take n bytes))) ≡ 1
+  pub wide : 2 * length (history_in (decode w) (take n bytes)) ≤ length room
 
 -- the pairs of that card stand in the room, whichever serial has these places
 pub record Paired (s : Store) (r : Plan) (room left : List ℕ) : Type 0 where
-  pub pairs-are : (bytes : List ℕ) (n : ℕ) → Places s bytes n r → length (found (take n bytes) (chainFor s (take n bytes))) ≡ 1 → left ≡ written (historyIn s (take n bytes)) room
+  pub pairs_are : (bytes : List ℕ) (n : ℕ) → Places s bytes n r → length (found (take n bytes) (chain_for s (take n bytes))) ≡ 1 → left ≡ written (history_in s (take n bytes)) room

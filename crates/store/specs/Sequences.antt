@@ -1,7 +1,7 @@
 -- Sequences of calls of the program: each call with what it was given, what it gave and what it left. A sequence meets the contracts where
 -- each call does. What is told of each serial is read off the calls and the numbers given, and off nothing inside the store.
 use Rattle.std.specs.Prelude.{◌≡◌, cond, List, [], ◌∷◌, ◌++◌, map, ℕ, eqb}
-use Rattle.model.specs.Calls.{Terms, openCall}
+use Rattle.model.specs.Calls.{Terms, open_call}
 use Rattle.model.specs.Runs.{Call, Call.opening, Call.acting, outcome, Event, Event.opened, Event.answered, Tell}
 use Rattle.store.specs.Leaves.{Opens, Leaves}
 use Rattle.store.specs.declared.answer.Answer as given
@@ -20,7 +20,7 @@ pub record Made : Type 0 where
 
 -- the contract of the entry point that was called on the words w
 abbrev pub Meets : List ℕ → Call → Given → Type 0
-Meets w (opening t) g = Opens (openCall w t) g.answer.number g.words × (g.answer.faults ≡ 0) × (g.room ≡ [])
+Meets w (opening t) g = Opens (open_call w t) g.answer.number g.words × (g.answer.faults ≡ 0) × (g.room ≡ [])
 Meets w (acting scratch act) g = Leaves (outcome w scratch act) g.answer g.words g.room g.scratch
 
 -- each call was made on the words that the one before it left
@@ -29,28 +29,28 @@ AllMeet w [] = Unit {0}
 AllMeet w (m ∷ ms) = Meets w m.call m.gives × AllMeet m.gives.words ms
 
 -- the words at the end
-abbrev pub endWords : List ℕ → List Made → List ℕ
-endWords w [] = w
-endWords w (m ∷ ms) = endWords m.gives.words ms
+abbrev pub end_words : List ℕ → List Made → List ℕ
+end_words w [] = w
+end_words w (m ∷ ms) = end_words m.gives.words ms
 
 -- what is known outside: the store opened anew, and each act with the number and the faults that the program gave
 abbrev pub seen : Call → Given → List Event
 seen (opening t) g = cond (eqb g.answer.number 0) (opened ∷ []) []
 seen (acting scratch act) g = answered act g.answer.number g.answer.faults ∷ []
 
-abbrev pub seenOf : List Made → List Event
-seenOf [] = []
-seenOf (m ∷ ms) = seen m.call m.gives ++ seenOf ms
+abbrev pub seen_of : List Made → List Event
+seen_of [] = []
+seen_of (m ∷ ms) = seen m.call m.gives ++ seen_of ms
 
 -- the terms of the last Open that was accepted, where the store was opened with the terms t before
-abbrev pub termsBy : Terms → Call → Given → Terms
-termsBy t (opening u) g = cond (eqb g.answer.number 0) u t
-termsBy t (acting scratch act) g = t
+abbrev pub terms_by : Terms → Call → Given → Terms
+terms_by t (opening u) g = cond (eqb g.answer.number 0) u t
+terms_by t (acting scratch act) g = t
 
-abbrev pub lastAsked : Terms → List Made → Terms
-lastAsked t [] = t
-lastAsked t (m ∷ ms) = lastAsked (termsBy t m.call m.gives) ms
+abbrev pub last_asked : Terms → List Made → Terms
+last_asked t [] = t
+last_asked t (m ∷ ms) = last_asked (terms_by t m.call m.gives) ms
 
 -- what demand 2 compares
-abbrev pub toldOf : List Made → List Tell
-toldOf = map (λ m. record { number = m.gives.answer.number; faults = m.gives.answer.faults; room = m.gives.room })
+abbrev pub told_of : List Made → List Tell
+told_of = map (λ m. record { number = m.gives.answer.number; faults = m.gives.answer.faults; room = m.gives.room })

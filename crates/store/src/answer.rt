@@ -1,6 +1,6 @@
 // What each of the four calls gives, and what each operation above them gives.
 ghost use Rattle.std.specs.Prelude.{◌≡◌};
-ghost use Rattle.store.specs.Leaves.{refusedAnswer};
+ghost use Rattle.store.specs.Leaves.{refused_answer};
 
 // The number, the cards compared, the cards scanned by a split or a contraction, and the faults that the card has.
 #[repr(C)]
@@ -14,7 +14,7 @@ pub struct Answer {
 
 // The answer of a call that is refused before it looks at the serial.
 pub fn refuse(number: u32) -> Answer
-    ensures { result ≡ refusedAnswer number }
+    ensures { result ≡ refused_answer number }
 {
     Answer {
         number,

@@ -1,7 +1,7 @@
 // Enter: a new card joins the end of its bucket's chain, and the table grows by one bucket if the load asks for it.
 ghost use Rattle.std.specs.Prelude.{◌≡◌, true, []};
 ghost use Rattle.model.specs.Layout.{encode, decode, sound};
-ghost use Rattle.model.specs.Calls.{enterStep};
+ghost use Rattle.model.specs.Calls.{enter_step};
 ghost use Rattle.store.specs.Leaves.{Does};
 ghost use Rattle.store.specs.Plans.{Plans};
 
@@ -13,8 +13,8 @@ use writer::{table, writes};
 
 // Does what a plan of Enter says: the card takes a free cell behind the last one of the plan's bucket.
 pub fn make_enter(w: &mut [u32], serial: [u8; 16], len: usize, t: Plan)
-    requires { (sound w.old ≡ true) × Plans (enterStep (decode w.old) serial len).answer w.old serial len t × (t.number ≡ 0) }
-    ensures { w.new ≡ encode (enterStep (decode w.old) serial len).store }
+    requires { (sound w.old ≡ true) × Plans (enter_step (decode w.old) serial len).answer w.old serial len t × (t.number ≡ 0) }
+    ensures { w.new ≡ encode (enter_step (decode w.old) serial len).store }
 {
     let h = t.header;
     let n = w[layout::HELD_AT] + 1;
@@ -25,7 +25,7 @@ pub fn make_enter(w: &mut [u32], serial: [u8; 16], len: usize, t: Plan)
 // Enter on a store known to be sound.
 pub fn enter_in(w: &mut [u32], serial: [u8; 16], len: usize) -> Answer
     requires { sound w.old ≡ true }
-    ensures { Does (enterStep (decode w.old) serial len) result w.new [] }
+    ensures { Does (enter_step (decode w.old) serial len) result w.new [] }
 {
     let t = plans::plan_enter(w, serial, len);
     if t.number != 0 {

@@ -1,9 +1,9 @@
 // File: a fault joins the history of a card.
 ghost use Rattle.std.specs.Prelude.{◌≡◌, true, []};
 ghost use Rattle.model.specs.Layout.{decode, sound};
-ghost use Rattle.model.specs.Calls.{fileStep};
+ghost use Rattle.model.specs.Calls.{file_step};
 ghost use Rattle.store.specs.Leaves.{Does};
-ghost use Rattle.store.specs.Plans.{fileWith, Ready, Follows};
+ghost use Rattle.store.specs.Plans.{file_with, Ready, Follows};
 
 use crate::answer::Answer;
 use crate::plans;
@@ -12,8 +12,8 @@ use writer::writes;
 
 // Does what a plan of File says: the fault goes behind the last one of the card in the plan's cell.
 pub fn make_file(w: &mut [u32], t: Plan, day: u32, code: u32)
-    requires { (sound w.old ≡ true) × Ready (fileWith (decode w.old) day code) w.old t }
-    ensures { Follows (fileWith (decode w.old) day code) w.old t w.new }
+    requires { (sound w.old ≡ true) × Ready (file_with (decode w.old) day code) w.old t }
+    ensures { Follows (file_with (decode w.old) day code) w.old t w.new }
 {
     let h = t.header;
     writes::file_at(w, h, t.cell, day, code);
@@ -22,7 +22,7 @@ pub fn make_file(w: &mut [u32], t: Plan, day: u32, code: u32)
 // File on a store known to be sound.
 pub fn file_in(w: &mut [u32], serial: [u8; 16], len: usize, day: u32, code: u32) -> Answer
     requires { sound w.old ≡ true }
-    ensures { Does (fileStep (decode w.old) serial len day code) result w.new [] }
+    ensures { Does (file_step (decode w.old) serial len day code) result w.new [] }
 {
     let t = plans::plan_file(w, serial, len, day, code);
     if t.number != 0 {

@@ -2,7 +2,7 @@
 // words to be sound a call in two steps and the cards one after another. What `reads` and `checker` have of use above is handed on here,
 // so that code above names `store` alone.
 ghost use Rattle.std.specs.Prelude.{[]};
-ghost use Rattle.model.specs.Calls.{openCall, asked};
+ghost use Rattle.model.specs.Calls.{open_call, asked};
 ghost use Rattle.model.specs.Runs.{Act, outcome};
 ghost use Rattle.store.specs.Leaves.{Leaves, Opens, Admits};
 
@@ -45,7 +45,7 @@ pub use reads::layout::{FAULTS_HELD_AT, HELD_AT, TO_CODE, TO_DAY, TO_FIRST, TO_N
 // grows, below L it contracts. Gives 1 where C or F is out of range, then 15 where U or L is, then 2 where the length is wrong, and in
 // all three every word stays; else 0.
 pub fn open(words: &mut [u32], cards: u32, faults: u32, upper: u32, lower: u32) -> u32
-    ensures { Opens (openCall words.old (asked cards faults upper lower)) result words.new }
+    ensures { Opens (open_call words.old (asked cards faults upper lower)) result words.new }
 {
     let s = layout::shape_for(cards, faults, upper, lower);
     if !layout::limits_ok(s) {

@@ -2,7 +2,7 @@
 ghost use Rattle.std.specs.Prelude.{◌≡◌, true};
 ghost use Rattle.model.specs.Layout.{decode, sound};
 ghost use Rattle.reads.specs.Cells.{Read};
-ghost use Rattle.store.specs.Order.{place_of, headFrom, Comes, Follows};
+ghost use Rattle.store.specs.Order.{place_of, head_from, Comes, Follows};
 
 use reads::header::Header;
 use reads::{cells, layout};
@@ -17,7 +17,7 @@ pub struct At {
 // The first card of the buckets from b on.
 fn from_bucket(w: &[u32], h: Header, b: u32) -> At
     requires { (sound w.now ≡ true) × Read w.now h }
-    ensures { result ≡ headFrom (decode w.now) b }
+    ensures { result ≡ head_from (decode w.now) b }
 {
     let end = h.maxp + h.p;
     let mut a = b;

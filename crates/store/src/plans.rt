@@ -1,15 +1,15 @@
 // The plans of the four calls on a sound store: each reads the header once, and gives the call's whole answer with the header and the
 // places that the change will touch, before a word is changed.
 ghost use Rattle.std.specs.Prelude.{◌≡◌, true, ◌+◌, ◌-◌, ◌<◌, length};
-ghost use Rattle.model.specs.Serial.{validSerial};
+ghost use Rattle.model.specs.Serial.{valid_serial};
 ghost use Rattle.model.specs.Model.{size, bucket};
 ghost use Rattle.model.specs.Layout.{follow, decode, sound};
-ghost use Rattle.model.specs.Meaning.{nextCard};
-ghost use Rattle.model.specs.Calls.{gives, enterStep, fileStep, showStep, withdrawStep};
-ghost use Rattle.reads.specs.Cells.{shapeIn, Sized, Read};
+ghost use Rattle.model.specs.Meaning.{next_card};
+ghost use Rattle.model.specs.Calls.{gives, enter_step, file_step, show_step, withdraw_step};
+ghost use Rattle.reads.specs.Cells.{shape_in, Sized, Read};
 ghost use Rattle.reads.specs.Chains.{Ends};
 ghost use Rattle.store.specs.Leaves.{Gives};
-ghost use Rattle.store.specs.Plans.{growScan, shrinkScan, refusedPlan, acceptedPlan, answered, Plans, PlansFor};
+ghost use Rattle.store.specs.Plans.{grow_scan, shrink_scan, refused_plan, accepted_plan, answered, Plans, PlansFor};
 
 use crate::answer::Answer;
 use crate::search::Spot;
@@ -33,7 +33,7 @@ pub struct Plan {
 
 // A call that is refused.
 fn refuse(h: Header, number: u32, comparisons: u32, faults: u32) -> Plan
-    ensures { result ≡ refusedPlan h number comparisons faults }
+    ensures { result ≡ refused_plan h number comparisons faults }
 {
     Plan {
         number,
@@ -58,7 +58,7 @@ pub fn refuse_early(w: &[u32], number: u32) -> Plan
 
 // A call that goes ahead where its serial was looked for.
 fn accept(h: Header, s: Spot, scanned: u32, faults: u32) -> Plan
-    ensures { result ≡ acceptedPlan h s scanned faults }
+    ensures { result ≡ accepted_plan h s scanned faults }
 {
     Plan {
         number: 0,
@@ -95,8 +95,8 @@ pub fn buckets(w: &[u32]) -> u32
 
 // How many cards the chain from cell `first` on has.
 fn chain_len(w: &[u32], h: Header, first: u32) -> u32
-    requires { Sized w.now h × Ends h.cards (nextCard (shapeIn h) w.now) first }
-    ensures { result ≡ length (follow h.cards (nextCard (shapeIn h) w.now) first) }
+    requires { Sized w.now h × Ends h.cards (next_card (shape_in h) w.now) first }
+    ensures { result ≡ length (follow h.cards (next_card (shape_in h) w.now) first) }
 {
     let mut i = first;
     let mut n: u32 = 0;
@@ -119,7 +119,7 @@ fn bucket_len(w: &[u32], h: Header, b: u32) -> u32
 // What an entry into bucket b will scan: bucket p with the new card, if the store then splits it.
 fn grow_scan(w: &[u32], h: Header, b: u32) -> u32
     requires { (sound w.now ≡ true) × Read w.now h }
-    ensures { result ≡ growScan (decode w.now) b }
+    ensures { result ≡ grow_scan (decode w.now) b }
 {
     let n = header::word(w, layout::HELD_AT);
     if !rules::must_split(h.top, h.upper, n + 1, h.maxp + h.p) {
@@ -139,7 +139,7 @@ fn less(x: u32) -> u32
 // What a withdrawal from bucket b will scan: the last bucket without the card, if the store then joins it to another.
 fn shrink_scan(w: &[u32], h: Header, b: u32) -> u32
     requires { (sound w.now ≡ true) × Read w.now h }
-    ensures { result ≡ shrinkScan (decode w.now) b }
+    ensures { result ≡ shrink_scan (decode w.now) b }
 {
     let n = header::word(w, layout::HELD_AT);
     let size = h.maxp + h.p;
@@ -153,7 +153,7 @@ fn shrink_scan(w: &[u32], h: Header, b: u32) -> u32
 // Enter: 4 for the serial, 6 where a card has it, 8 where no cell is free.
 pub fn plan_enter(w: &[u32], serial: [u8; 16], len: usize) -> Plan
     requires { sound w.now ≡ true }
-    ensures { Plans (enterStep (decode w.now) serial len).answer w.now serial len result }
+    ensures { Plans (enter_step (decode w.now) serial len).answer w.now serial len result }
 {
     if !serial::valid_serial(serial, len) {
         return refuse_early(w, numbers::BAD_SERIAL);
@@ -173,7 +173,7 @@ pub fn plan_enter(w: &[u32], serial: [u8; 16], len: usize) -> Plan
 // File: 4 for the serial, 5 for day and code, 7 where no card has the serial, 9 where no fault cell is free.
 pub fn plan_file(w: &[u32], serial: [u8; 16], len: usize, day: u32, code: u32) -> Plan
     requires { sound w.now ≡ true }
-    ensures { Plans (fileStep (decode w.now) serial len day code).answer w.now serial len result }
+    ensures { Plans (file_step (decode w.now) serial len day code).answer w.now serial len result }
 {
     if !serial::valid_serial(serial, len) {
         return refuse_early(w, numbers::BAD_SERIAL);
@@ -195,8 +195,8 @@ pub fn plan_file(w: &[u32], serial: [u8; 16], len: usize, day: u32, code: u32) -
 
 // Show and Withdraw of a valid serial: 7 where no card has it, 10 where its pairs do not fit.
 fn plan_pairs(w: &[u32], serial: [u8; 16], len: usize, room: usize) -> Plan
-    requires { (sound w.now ≡ true) × (validSerial serial len ≡ true) }
-    ensures { PlansFor (showStep (decode w.now) serial len) room w.now serial len result }
+    requires { (sound w.now ≡ true) × (valid_serial serial len ≡ true) }
+    ensures { PlansFor (show_step (decode w.now) serial len) room w.now serial len result }
 {
     let s = search::find(w, serial, len);
     let h = header::header_of(w);
@@ -213,7 +213,7 @@ fn plan_pairs(w: &[u32], serial: [u8; 16], len: usize, room: usize) -> Plan
 // Show, for a room of so many words: 4 for the serial, then 7 and 10.
 pub fn plan_show(w: &[u32], serial: [u8; 16], len: usize, room: usize) -> Plan
     requires { sound w.now ≡ true }
-    ensures { PlansFor (showStep (decode w.now) serial len) room w.now serial len result }
+    ensures { PlansFor (show_step (decode w.now) serial len) room w.now serial len result }
 {
     if !serial::valid_serial(serial, len) {
         return refuse_early(w, numbers::BAD_SERIAL);
@@ -224,7 +224,7 @@ pub fn plan_show(w: &[u32], serial: [u8; 16], len: usize, room: usize) -> Plan
 // Withdraw: as Show, and what it will scan.
 pub fn plan_withdraw(w: &[u32], serial: [u8; 16], len: usize, room: usize) -> Plan
     requires { sound w.now ≡ true }
-    ensures { PlansFor (withdrawStep (decode w.now) serial len) room w.now serial len result }
+    ensures { PlansFor (withdraw_step (decode w.now) serial len) room w.now serial len result }
 {
     if !serial::valid_serial(serial, len) {
         return refuse_early(w, numbers::BAD_SERIAL);

@@ -1,9 +1,9 @@
 // The search of a bucket's chain for a serial: it counts the cards that it compares.
 ghost use Rattle.std.specs.Prelude.{◌≡◌, true, ◌≤◌, ◌<◌, take, get_or};
-ghost use Rattle.model.specs.Serial.{validSerial};
-ghost use Rattle.model.specs.Layout.{serialWords, decode, sound};
-ghost use Rattle.model.specs.Meaning.{nextCard};
-ghost use Rattle.reads.specs.Cells.{shapeIn, Sized};
+ghost use Rattle.model.specs.Serial.{valid_serial};
+ghost use Rattle.model.specs.Layout.{serial_words, decode, sound};
+ghost use Rattle.model.specs.Meaning.{next_card};
+ghost use Rattle.reads.specs.Cells.{shape_in, Sized};
 ghost use Rattle.reads.specs.Chains.{Ends, has_key};
 ghost use Rattle.store.specs.Search.{searched, Finds};
 
@@ -40,8 +40,8 @@ fn is_sought(
     last: usize,
     end: u32,
 ) -> bool
-    requires { Sized w.now h × (1 ≤ i) × (i ≤ h.cards) × (last < serialWords) × (end ≡ get_or key last 0) }
-    ensures { result ≡ has_key (shapeIn h) w.now i len key }
+    requires { Sized w.now h × (1 ≤ i) × (i ≤ h.cards) × (last < serial_words) × (end ≡ get_or key last 0) }
+    ensures { result ≡ has_key (shape_in h) w.now i len key }
 {
     if keys::end_word(w, h, i, last) != end {
         return false;
@@ -51,8 +51,8 @@ fn is_sought(
 
 // Goes along the chain from cell `first` until a card has the serial, and counts the cards compared.
 pub fn search(w: &[u32], h: Header, first: u32, len: u32, key: [u32; layout::SERIAL_WORDS]) -> Found
-    requires { Sized w.now h × Ends h.cards (nextCard (shapeIn h) w.now) first }
-    ensures { result ≡ searched (shapeIn h) w.now first len key }
+    requires { Sized w.now h × Ends h.cards (next_card (shape_in h) w.now) first }
+    ensures { result ≡ searched (shape_in h) w.now first len key }
 {
     let last = keys::last_word(len);
     let end = key[last];
@@ -83,7 +83,7 @@ pub fn search(w: &[u32], h: Header, first: u32, len: u32, key: [u32; layout::SER
 // Where the card of a serial stands in a sound store: its bucket by the serial's code, and the search of that bucket's chain. It reads what
 // it needs of the header itself: handed over by value, all twelve numbers would be laid out in memory for each search.
 pub fn find(w: &[u32], serial: [u8; 16], len: usize) -> Spot
-    requires { (sound w.now ≡ true) × (validSerial serial len ≡ true) }
+    requires { (sound w.now ≡ true) × (valid_serial serial len ≡ true) }
     ensures { Finds (decode w.now) (take len serial) result }
 {
     let key = serial::pack(serial);

@@ -2,7 +2,7 @@
 // for it.
 ghost use Rattle.std.specs.Prelude.{◌≡◌, true};
 ghost use Rattle.model.specs.Layout.{decode, sound};
-ghost use Rattle.model.specs.Calls.{withdrawStep};
+ghost use Rattle.model.specs.Calls.{withdraw_step};
 ghost use Rattle.store.specs.Leaves.{Does};
 ghost use Rattle.store.specs.Plans.{Ready, Follows};
 
@@ -13,8 +13,8 @@ use writer::{table, writes};
 
 // Does what a plan of Withdraw says: the card in the plan's cell is taken out, and its cell and its fault cells are free.
 pub fn make_withdraw(w: &mut [u32], t: Plan)
-    requires { (sound w.old ≡ true) × Ready (withdrawStep (decode w.old)) w.old t }
-    ensures { Follows (withdrawStep (decode w.old)) w.old t w.new }
+    requires { (sound w.old ≡ true) × Ready (withdraw_step (decode w.old)) w.old t }
+    ensures { Follows (withdraw_step (decode w.old)) w.old t w.new }
 {
     let h = t.header;
     writes::remove_at(w, h, t.bucket, t.prev, t.cell);
@@ -24,7 +24,7 @@ pub fn make_withdraw(w: &mut [u32], t: Plan)
 // Withdraw on a store known to be sound: the pairs are written while the card is still there.
 pub fn withdraw_in(w: &mut [u32], serial: [u8; 16], len: usize, room: &mut [u32]) -> Answer
     requires { sound w.old ≡ true }
-    ensures { Does (withdrawStep (decode w.old) serial len room.old) result w.new room.new }
+    ensures { Does (withdraw_step (decode w.old) serial len room.old) result w.new room.new }
 {
     let t = plans::plan_withdraw(w, serial, len, room.len());
     if t.number != 0 {

@@ -11,39 +11,39 @@ use lib.Seq.{sets, length-sets, sets-eq, set_comm, length-take-le, take_at, drop
 use Rattle.text.specs.Decimals.{Puts}
 
 -- a run of stores, taken apart
-pub sets-append : (a b l : List ℕ) (i : ℕ) → sets l i (a ++ b) ≡ sets (sets l i a) (i + length a) b
-sets-append [] b l i = ap (λ (n : ℕ). sets l n b) (sym (add-zero i))
-sets-append (x ∷ a) b l i =
+pub sets_append : (a b l : List ℕ) (i : ℕ) → sets l i (a ++ b) ≡ sets (sets l i a) (i + length a) b
+sets_append [] b l i = ap (λ (n : ℕ). sets l n b) (sym (add-zero i))
+sets_append (x ∷ a) b l i =
     let e : suc i + length a ≡ i + suc (length a) = omega arith in
-    sets-append a b (set l i x) (suc i) ∙ ap (λ (n : ℕ). sets (sets (set l i x) (suc i) a) n b) e
+    sets_append a b (set l i x) (suc i) ∙ ap (λ (n : ℕ). sets (sets (set l i x) (suc i) a) n b) e
 
 -- a store behind the run can come first or last
-sets-past : (vs l : List ℕ) (i j v : ℕ) → i + length vs ≤ j → sets (set l j v) i vs ≡ set (sets l i vs) j v
-sets-past [] l i j v h = refl
-sets-past (x ∷ vs) l i j v h =
+sets_past : (vs l : List ℕ) (i j v : ℕ) → i + length vs ≤ j → sets (set l j v) i vs ≡ set (sets l i vs) j v
+sets_past [] l i j v h = refl
+sets_past (x ∷ vs) l i j v h =
     let n : j ≡ i → ⊥ = λ e. omega arith in
-    ap (λ (m : List ℕ). sets m (suc i) vs) (set_comm l j i v x n) ∙ sets-past vs (set l i x) (suc i) j v (omega arith)
+    ap (λ (m : List ℕ). sets m (suc i) vs) (set_comm l j i v x n) ∙ sets_past vs (set l i x) (suc i) j v (omega arith)
 
 -- the last byte of a text is written first
 pub sets_last : (vs l : List ℕ) (i j v : ℕ) → j ≡ i + length vs → sets (set l j v) i vs ≡ sets l i (vs ++ (v ∷ []))
 sets_last vs l i j v e =
-    sets-past vs l i j v (omega arith) ∙ ap (λ (k : ℕ). set (sets l i vs) k v) e ∙ sym (sets-append vs (v ∷ []) l i)
+    sets_past vs l i j v (omega arith) ∙ ap (λ (k : ℕ). set (sets l i vs) k v) e ∙ sym (sets_append vs (v ∷ []) l i)
 
 -- a text behind another
 pub puts_then : {out mid left : List ℕ} {at here end : ℕ} (a b : List ℕ) → Puts out at a here mid → Puts mid here b end left → Puts out at (a ++ b) end left
 puts_then {out} {mid} {left} {at} {here} {end} a b p q =
-    record { out-is = rw (sets-append a b out at, ← p.out-is, ← p.end_is) q.out-is; end_is = omega (arith, length-append a b) }
+    record { out_is = rw (sets_append a b out at, ← p.out_is, ← p.end_is) q.out_is; end_is = omega (arith, length-append a b) }
 
 -- the output keeps its length
-pub puts-length : {out left : List ℕ} {at end : ℕ} (text : List ℕ) → Puts out at text end left → length left ≡ length out
-puts-length {out} {left} {at} text p = ap length p.out-is ∙ length-sets out at text
+pub puts_length : {out left : List ℕ} {at end : ℕ} (text : List ℕ) → Puts out at text end left → length left ≡ length out
+puts_length {out} {left} {at} text p = ap length p.out_is ∙ length-sets out at text
 
 -- room for both is room for the first, and, once it is written, for the second
-pub room-first : (at : ℕ) {n : ℕ} (a b : List ℕ) → at + length (a ++ b) ≤ n → at + length a ≤ n
-room-first at a b h = omega (arith, length-append a b)
+pub room_first : (at : ℕ) {n : ℕ} (a b : List ℕ) → at + length (a ++ b) ≤ n → at + length a ≤ n
+room_first at a b h = omega (arith, length-append a b)
 
-pub room-then : {out mid : List ℕ} {at here : ℕ} (a b : List ℕ) → Puts out at a here mid → at + length (a ++ b) ≤ length out → here + length b ≤ length mid
-room-then a b p h = omega (arith, length-append a b, puts-length a p)
+pub room_then : {out mid : List ℕ} {at here : ℕ} (a b : List ℕ) → Puts out at a here mid → at + length (a ++ b) ≤ length out → here + length b ≤ length mid
+room_then a b p h = omega (arith, length-append a b, puts_length a p)
 
 -- the text that is left to write at `end` makes, of what is written so far, the whole text at `at`
 pub record Left (out : List ℕ) (at : ℕ) (whole : List ℕ) (now : List ℕ) (end : ℕ) (text : List ℕ) : Type 0 where
@@ -51,18 +51,18 @@ pub record Left (out : List ℕ) (at : ℕ) (whole : List ℕ) (now : List ℕ) 
   pub ends : end + length text ≡ at + length whole
   pub long : length now ≡ length out
 
-pub left-all : {out : List ℕ} {at : ℕ} {text : List ℕ} → Left out at text out at text
-left-all = record { same = refl; ends = refl; long = refl }
+pub left_all : {out : List ℕ} {at : ℕ} {text : List ℕ} → Left out at text out at text
+left_all = record { same = refl; ends = refl; long = refl }
 
 pub left_less : {out whole now new : List ℕ} {at end next : ℕ} (a b : List ℕ) → Left out at whole now end (a ++ b) → Puts now end a next new → Left out at whole new next b
 left_less {out} {whole} {now} {new} {at} {end} {next} a b l p =
-    record { same = rw (p.out-is, p.end_is, ← (sets-append a b now end)) l.same; ends = omega (arith, length-append a b); long = puts-length a p ∙ l.long }
+    record { same = rw (p.out_is, p.end_is, ← (sets_append a b now end)) l.same; ends = omega (arith, length-append a b); long = puts_length a p ∙ l.long }
 
-pub left-room : {out whole now : List ℕ} {at end : ℕ} (text : List ℕ) → Left out at whole now end text → at + length whole ≤ length out → end + length text ≤ length now
-left-room text l h = omega arith
+pub left_room : {out whole now : List ℕ} {at end : ℕ} (text : List ℕ) → Left out at whole now end text → at + length whole ≤ length out → end + length text ≤ length now
+left_room text l h = omega arith
 
-pub left-none : {out whole now : List ℕ} {at end : ℕ} → Left out at whole now end [] → Puts out at whole end now
-left-none {out} {whole} {now} {at} {end} l = record { out-is = l.same; end_is = omega arith }
+pub left_none : {out whole now : List ℕ} {at end : ℕ} → Left out at whole now end [] → Puts out at whole end now
+left_none {out} {whole} {now} {at} {end} l = record { out_is = l.same; end_is = omega arith }
 
 -- a text at the front of the output with an answer behind it
 pub put_front : (out answer : List ℕ) (at : ℕ) → at + length answer ≤ length out → take (at + length answer) (sets out at answer) ≡ take at out ++ answer

@@ -5,7 +5,7 @@ use Rattle.model.specs.Text.{decimal}
 
 -- from `at` on the output has the bytes of the text, all else is as it was, and `end` is the place behind the text
 pub record Puts (out : List ℕ) (at : ℕ) (text : List ℕ) (end : ℕ) (left : List ℕ) : Type 0 where
-  pub out-is : left ≡ sets out at text
+  pub out_is : left ≡ sets out at text
   pub end_is : end ≡ at + length text
 
 -- the digits of a 32-bit number

@@ -1,6 +1,6 @@
 // Numbers as text, written into an output that has room for them.
 ghost use Rattle.std.specs.Prelude.{◌≡◌, [], ◌∷◌, ◌+◌, ◌≤◌, ◌<◌, length};
-ghost use Rattle.model.specs.Text.{digitZero, decimal};
+ghost use Rattle.model.specs.Text.{digit_zero, decimal};
 ghost use Rattle.text.specs.Decimals.{Puts, Digits, marked};
 
 use super::letters;
@@ -8,7 +8,7 @@ use super::letters;
 // The digit of a number below 10.
 fn digit(d: u32) -> u8
     requires { d < 10 }
-    ensures { result ≡ digitZero + d }
+    ensures { result ≡ digit_zero + d }
 {
     letters::DIGIT_ZERO + d as u8
 }

@@ -1,5 +1,5 @@
 -- A history that is cleared cell by cell: at each turn, clearing what is left gives what clearing the whole gives (`Clearing`), since no
--- next word is written. Cleared, it is put before the free cells (`give-is`).
+-- next word is written. Cleared, it is put before the free cells (`give_is`).
 use mathlib.Core.Path.{◌≡◌, refl, sym, ap, ◌∙◌}
 use mathlib.Core.List.{List}
 use Prim.Native.Nat.{ℕ, zero, suc, ◌≤◌, ◌<◌}
@@ -8,80 +8,80 @@ use borrow.Author.Tests.{eq-eqb, ne_eqb}
 use lib.ListN.{length, get_or, set}
 use lib.Seq.{get_or-set_other}
 use Rattle.model.specs.Shape.{Shape}
-use Rattle.model.specs.Layout.{freeFaultsAt, toNext, toDay, toCode, cell_at, follow, faultWord}
-use Rattle.model.specs.Meaning.{nextFault}
-use Rattle.model.specs.Words.{faultAt, clearWords, giveWords}
+use Rattle.model.specs.Layout.{free_faults_at, to_next, to_day, to_code, cell_at, follow, fault_word}
+use Rattle.model.specs.Meaning.{next_fault}
+use Rattle.model.specs.Words.{fault_at, clear_words, give_words}
 use Rattle.model.proofs.Give.{clear_none, clear_step}
 use Rattle.reads.specs.declared.header.Header.{Header}
-use Rattle.reads.specs.Cells.{shapeIn, Sized}
+use Rattle.reads.specs.Cells.{shape_in, Sized}
 use Rattle.reads.specs.Chains.{Ends}
-use Rattle.reads.proofs.AlongLaws.{follow-length}
-use Rattle.reads.proofs.EndsLaws.{ends_on, ends-frame, ends-less}
+use Rattle.reads.proofs.AlongLaws.{follow_length}
+use Rattle.reads.proofs.EndsLaws.{ends_on, ends_frame, ends_less}
 use Rattle.reads.proofs.CellLaws.{sized_set}
 
 pub record Clearing (h : Header) (w₀ : List ℕ) (first : ℕ) (w : List ℕ) (i : ℕ) : Type 0 where
   pub sized : Sized w h
-  pub ends : Ends h.faults (nextFault (shapeIn h) w) i
+  pub ends : Ends h.faults (next_fault (shape_in h) w) i
   pub fuel : ℕ
-  pub enough : length (follow h.faults (nextFault (shapeIn h) w) i) ≤ fuel
-  pub same : clearWords fuel (shapeIn h) w i ≡ clearWords h.faults (shapeIn h) w₀ first
+  pub enough : length (follow h.faults (next_fault (shape_in h) w) i) ≤ fuel
+  pub same : clear_words fuel (shape_in h) w i ≡ clear_words h.faults (shape_in h) w₀ first
 
-pub clear-start : {w : List ℕ} {h : Header} {first : ℕ} → Sized w h → Ends h.faults (nextFault (shapeIn h) w) first → Clearing h w first w first
-clear-start {w} {h} {first} s e = record { sized = s; ends = e; fuel = h.faults; enough = follow-length h.faults (nextFault (shapeIn h) w) first; same = refl }
+pub clear_start : {w : List ℕ} {h : Header} {first : ℕ} → Sized w h → Ends h.faults (next_fault (shape_in h) w) first → Clearing h w first w first
+clear_start {w} {h} {first} s e = record { sized = s; ends = e; fuel = h.faults; enough = follow_length h.faults (next_fault (shape_in h) w) first; same = refl }
 
 module _ {h : Header} {w₀ : List ℕ} {first : ℕ} {w : List ℕ} {i : ℕ} (a : Clearing h w₀ first w i) where
   abbrev sh : Shape
-  sh = shapeIn h
+  sh = shape_in h
 
   abbrev f : ℕ
   f = h.faults
 
-  pub clear-end : i ≡ 0 → w ≡ clearWords h.faults (shapeIn h) w₀ first
-  clear-end z = sym (clear_none a.fuel sh w) ∙ ap (clearWords a.fuel sh w) (sym z) ∙ a.same
+  pub clear_end : i ≡ 0 → w ≡ clear_words h.faults (shape_in h) w₀ first
+  clear_end z = sym (clear_none a.fuel sh w) ∙ ap (clear_words a.fuel sh w) (sym z) ∙ a.same
 
-  module _ (ne : i ≡ 0 → ⊥) {next : ℕ} {u v : List ℕ} (n : next ≡ faultWord (shapeIn h) w i toNext) (e₁ : u ≡ set w (faultAt (shapeIn h) i toDay) 0) (e₂ : v ≡ set u (faultAt (shapeIn h) i toCode) 0) where
+  module _ (ne : i ≡ 0 → ⊥) {next : ℕ} {u v : List ℕ} (n : next ≡ fault_word (shape_in h) w i to_next) (e₁ : u ≡ set w (fault_at (shape_in h) i to_day) 0) (e₂ : v ≡ set u (fault_at (shape_in h) i to_code) 0) where
     sized : Sized v h
-    sized = sized_set (sized_set a.sized (faultAt sh i toDay) 0 e₁) (faultAt sh i toCode) 0 e₂
+    sized = sized_set (sized_set a.sized (fault_at sh i to_day) 0 e₁) (fault_at sh i to_code) 0 e₂
 
     -- no next word is written
-    agree : (k : ℕ) → nextFault sh v k ≡ nextFault sh w k
-    unfolding faultWord cell_at
+    agree : (k : ℕ) → next_fault sh v k ≡ next_fault sh w k
+    unfolding fault_word cell_at
     agree k =
-        ap (λ (l : List ℕ). get_or l (faultAt sh k toNext) 0) e₂ ∙ get_or-set_other u (faultAt sh i toCode) (faultAt sh k toNext) 0 0 (omega arith)
-        ∙ ap (λ (l : List ℕ). get_or l (faultAt sh k toNext) 0) e₁ ∙ get_or-set_other w (faultAt sh i toDay) (faultAt sh k toNext) 0 0 (omega arith)
+        ap (λ (l : List ℕ). get_or l (fault_at sh k to_next) 0) e₂ ∙ get_or-set_other u (fault_at sh i to_code) (fault_at sh k to_next) 0 0 (omega arith)
+        ∙ ap (λ (l : List ℕ). get_or l (fault_at sh k to_next) 0) e₁ ∙ get_or-set_other w (fault_at sh i to_day) (fault_at sh k to_next) 0 0 (omega arith)
 
-    behind : (follow f (nextFault sh v) next ≡ follow f (nextFault sh w) (nextFault sh w i)) × Ends f (nextFault sh v) next
-    behind = rw n (ends-frame (ends_on a.ends ne).1 (nextFault sh v) (λ k p. agree k))
+    behind : (follow f (next_fault sh v) next ≡ follow f (next_fault sh w) (next_fault sh w i)) × Ends f (next_fault sh v) next
+    behind = rw n (ends_frame (ends_on a.ends ne).1 (next_fault sh v) (λ k p. agree k))
 
-    pub clear-less : length (follow h.faults (nextFault (shapeIn h) v) next) < length (follow h.faults (nextFault (shapeIn h) w) i)
-    clear-less = omega (arith, ap length behind.0, ends-less a.ends ne)
+    pub clear_less : length (follow h.faults (next_fault (shape_in h) v) next) < length (follow h.faults (next_fault (shape_in h) w) i)
+    clear_less = omega (arith, ap length behind.0, ends_less a.ends ne)
 
     -- the next word, as it stands among the words
-    next-is : next ≡ get_or w (faultAt sh i toNext) 0
-    unfolding faultWord
-    next-is = n
+    next_is : next ≡ get_or w (fault_at sh i to_next) 0
+    unfolding fault_word
+    next_is = n
 
     pub clear_next : Clearing h w₀ first v next
     clear_next = go a.fuel a.enough a.same
       where
-        go : (fuel : ℕ) → length (follow f (nextFault sh w) i) ≤ fuel → clearWords fuel sh w i ≡ clearWords f sh w₀ first → Clearing h w₀ first v next
-        go zero b s = absurd (omega (arith, clear-less))
+        go : (fuel : ℕ) → length (follow f (next_fault sh w) i) ≤ fuel → clear_words fuel sh w i ≡ clear_words f sh w₀ first → Clearing h w₀ first v next
+        go zero b s = absurd (omega (arith, clear_less))
         go (suc fuel) b s =
             record {
               sized = sized;
               ends = behind.1;
               fuel = fuel;
-              enough = omega (arith, clear-less);
-              same = rw (e₂, e₁, next-is) (sym (clear_step fuel sh w i (omega arith)) ∙ s);
+              enough = omega (arith, clear_less);
+              same = rw (e₂, e₁, next_is) (sym (clear_step fuel sh w i (omega arith)) ∙ s);
             }
 
 -- a history given back: none, or its cells cleared and put before the free ones
 
-pub give-none : (sh : Shape) (w : List ℕ) (i j : ℕ) → i ≡ 0 → w ≡ giveWords sh w i j
-unfolding giveWords
-give-none sh w i j z = rw (eq-eqb i 0 z)
+pub give_none : (sh : Shape) (w : List ℕ) (i j : ℕ) → i ≡ 0 → w ≡ give_words sh w i j
+unfolding give_words
+give_none sh w i j z = rw (eq-eqb i 0 z)
 
-pub give-is : {w : List ℕ} {h : Header} → Sized w h → (i j : ℕ) → (i ≡ 0 → ⊥) → {w₁ w₂ : List ℕ} → w₁ ≡ clearWords h.faults (shapeIn h) w i
-    → w₂ ≡ set w₁ (faultAt (shapeIn h) j toNext) (get_or w freeFaultsAt 0) → set w₂ freeFaultsAt i ≡ giveWords (shapeIn h) w i j
-unfolding giveWords
-give-is s i j ne e₁ e₂ = rw (e₂, e₁, ne_eqb i 0 ne)
+pub give_is : {w : List ℕ} {h : Header} → Sized w h → (i j : ℕ) → (i ≡ 0 → ⊥) → {w₁ w₂ : List ℕ} → w₁ ≡ clear_words h.faults (shape_in h) w i
+    → w₂ ≡ set w₁ (fault_at (shape_in h) j to_next) (get_or w free_faults_at 0) → set w₂ free_faults_at i ≡ give_words (shape_in h) w i j
+unfolding give_words
+give_is s i j ne e₁ e₂ = rw (e₂, e₁, ne_eqb i 0 ne)

@@ -11,5 +11,5 @@ unfoldable pub leading : ℕ → ℕ → List ℕ
 leading width next = next ∷ replicate (width - 1) 0
 
 -- free cells 1 to i of n, each leading to the one behind it
-unfoldable pub cellsTo : ℕ → ℕ → ℕ → List ℕ
-cellsTo width n i = join (map (λ k. leading width (behind n k)) (from 1 i))
+unfoldable pub cells_to : ℕ → ℕ → ℕ → List ℕ
+cells_to width n i = join (map (λ k. leading width (behind n k)) (from 1 i))

@@ -1,8 +1,8 @@
 -- What each change asks of the words that it writes: that all cells it names are there.
 use Rattle.std.specs.Prelude.{◌≡◌, List, ℕ, ◌≤◌, ◌<◌, get_or}
-use Rattle.model.specs.Layout.{held_at, faultsHeldAt, freeAt, freeFaultsAt, toFirst, toLast, toCount, last, follow, cardWord}
-use Rattle.model.specs.Meaning.{nextFault}
-use Rattle.reads.specs.Cells.{shapeIn, Sized}
+use Rattle.model.specs.Layout.{held_at, faults_held_at, free_at, free_faults_at, to_first, to_last, to_count, last, follow, card_word}
+use Rattle.model.specs.Meaning.{next_fault}
+use Rattle.reads.specs.Cells.{shape_in, Sized}
 use Rattle.reads.specs.Chains.{Ends}
 use Rattle.reads.specs.declared.header.Header.{Header}
 
@@ -11,8 +11,8 @@ pub record MayPlace (w : List ℕ) (h : Header) (b i : ℕ) : Type 0 where
   pub sized : Sized w h
   pub bucket : b < h.top
   pub behind : i ≤ h.cards
-  pub free : 1 ≤ get_or w freeAt 0
-  pub within : get_or w freeAt 0 ≤ h.cards
+  pub free : 1 ≤ get_or w free_at 0
+  pub within : get_or w free_at 0 ≤ h.cards
   pub held : get_or w held_at 0 ≤ h.cards
 
 -- a new fault of the card in cell i: there is a free cell, and the card's last fault is a fault cell or 0
@@ -20,11 +20,11 @@ pub record MayFile (w : List ℕ) (h : Header) (i : ℕ) : Type 0 where
   pub sized : Sized w h
   pub card : 1 ≤ i
   pub inside : i ≤ h.cards
-  pub free : 1 ≤ get_or w freeFaultsAt 0
-  pub within : get_or w freeFaultsAt 0 ≤ h.faults
-  pub last : cardWord (shapeIn h) w i toLast ≤ h.faults
-  pub count : cardWord (shapeIn h) w i toCount ≤ h.faults
-  pub held : get_or w faultsHeldAt 0 ≤ h.faults
+  pub free : 1 ≤ get_or w free_faults_at 0
+  pub within : get_or w free_faults_at 0 ≤ h.faults
+  pub last : card_word (shape_in h) w i to_last ≤ h.faults
+  pub count : card_word (shape_in h) w i to_count ≤ h.faults
+  pub held : get_or w faults_held_at 0 ≤ h.faults
 
 -- a card taken out: it stands in cell i behind cell j of bucket b's chain, or first where j is 0; its history ends, and the card's words and
 -- the counts say so
@@ -35,6 +35,6 @@ pub record MayRemove (w : List ℕ) (h : Header) (b j i : ℕ) : Type 0 where
   pub card : 1 ≤ i
   pub inside : i ≤ h.cards
   pub held : 1 ≤ get_or w held_at 0
-  pub filed : cardWord (shapeIn h) w i toCount ≤ get_or w faultsHeldAt 0
-  pub ends : Ends h.faults (nextFault (shapeIn h) w) (cardWord (shapeIn h) w i toFirst)
-  pub last-is : cardWord (shapeIn h) w i toLast ≡ last (follow h.faults (nextFault (shapeIn h) w) (cardWord (shapeIn h) w i toFirst))
+  pub filed : card_word (shape_in h) w i to_count ≤ get_or w faults_held_at 0
+  pub ends : Ends h.faults (next_fault (shape_in h) w) (card_word (shape_in h) w i to_first)
+  pub last_is : card_word (shape_in h) w i to_last ≡ last (follow h.faults (next_fault (shape_in h) w) (card_word (shape_in h) w i to_first))

@@ -1,16 +1,16 @@
 // A fresh store, written part by part: each part of the words is lent to a writer that knows that part alone.
 ghost use Rattle.std.specs.Prelude.{◌≡◌, true, ◌++◌, ◌*◌, ◌<◌, length, replicate};
 ghost use Rattle.model.specs.Model.{fresh};
-ghost use Rattle.model.specs.Layout.{directoryAt, segmentsAt, header, directory, shapeOk, lengthFor, encode};
+ghost use Rattle.model.specs.Layout.{directory_at, segments_at, header, directory, shape_ok, length_for, encode};
 ghost use Rattle.reads.specs.Cells.{shape_by};
-ghost use Rattle.writer.specs.Fresh.{behind, leading, cellsTo};
+ghost use Rattle.writer.specs.Fresh.{behind, leading, cells_to};
 
 use reads::layout;
 use reads::layout::Shape;
 
 // Words 0 to 15 of a fresh store.
 fn fresh_header(s: Shape) -> [u32; layout::HEADER]
-    requires { shapeOk (shape_by s) ≡ true }
+    requires { shape_ok (shape_by s) ≡ true }
     ensures { result ≡ header (fresh (shape_by s)) }
 {
     let segments = layout::segments_at(s);
@@ -41,7 +41,7 @@ fn fresh_header(s: Shape) -> [u32; layout::HEADER]
 
 // The header, written whole.
 fn put_row(part: &mut [u32], row: [u32; layout::HEADER])
-    requires { length part.old ≡ directoryAt }
+    requires { length part.old ≡ directory_at }
     ensures { part.new ≡ row }
 {
     let mut i: usize = 0;
@@ -81,7 +81,7 @@ fn next_of(i: u32, n: u32) -> u32
 // Free cells of one width, chained 1, 2, 3 to the last.
 fn fill_cells(part: &mut [u32], width: usize, n: u32)
     requires { (0 < width) × (length part.old ≡ width * n) }
-    ensures { part.new ≡ cellsTo width n n }
+    ensures { part.new ≡ cells_to width n n }
 {
     let mut i: u32 = 0;
     let mut at: usize = 0;
@@ -95,7 +95,7 @@ fn fill_cells(part: &mut [u32], width: usize, n: u32)
 
 // Header and directory: the first segment is in use, and no other.
 fn fill_head(part: &mut [u32], s: Shape)
-    requires { (shapeOk (shape_by s) ≡ true) × (length part.old ≡ segmentsAt (shape_by s)) }
+    requires { (shape_ok (shape_by s) ≡ true) × (length part.old ≡ segments_at (shape_by s)) }
     ensures { part.new ≡ header (fresh (shape_by s)) ++ directory (fresh (shape_by s)) }
 {
     let row = fresh_header(s);
@@ -106,7 +106,7 @@ fn fill_head(part: &mut [u32], s: Shape)
 
 // All words of a fresh store: its parts are lent on one after the other, from where they begin.
 pub fn fill(words: &mut [u32], s: Shape)
-    requires { (shapeOk (shape_by s) ≡ true) × (length words.old ≡ lengthFor (shape_by s)) }
+    requires { (shape_ok (shape_by s) ≡ true) × (length words.old ≡ length_for (shape_by s)) }
     ensures { words.new ≡ encode (fresh (shape_by s)) }
 {
     let segments = layout::segments_at(s);

@@ -1,13 +1,13 @@
 // The table with one bucket more and one less: Larson's split of a chain in two, and the contraction that joins the two again.
 ghost use Rattle.std.specs.Prelude.{◌≡◌, ◌+◌, ◌≤◌, ◌<◌, length, get_or, set};
-ghost use Rattle.rules.specs.Table.{top, lowP};
+ghost use Rattle.rules.specs.Table.{top, low_p};
 ghost use Rattle.model.specs.Model.{grown, shrunk};
-ghost use Rattle.model.specs.Layout.{held_at, maxpAt, p_at, directoryAt, encode, decode};
-ghost use Rattle.model.specs.Meaning.{nextCard, bucketWord};
-ghost use Rattle.model.specs.Words.{openWords, closeWords, movesAt, partWords, splitWords, joinWords};
-ghost use Rattle.reads.specs.Cells.{shapeIn, Sized, Read};
+ghost use Rattle.model.specs.Layout.{held_at, maxp_at, p_at, directory_at, encode, decode};
+ghost use Rattle.model.specs.Meaning.{next_card, bucket_word};
+ghost use Rattle.model.specs.Words.{open_words, close_words, moves_at, part_words, split_words, join_words};
+ghost use Rattle.reads.specs.Cells.{shape_in, Sized, Read};
 ghost use Rattle.reads.specs.Chains.{Ends};
-ghost use Rattle.writer.specs.Table.{MaySplit, MayJoin, lastFrom, last_of, Fairly};
+ghost use Rattle.writer.specs.Table.{MaySplit, MayJoin, last_from, last_of, Fairly};
 
 use crate::writes;
 use reads::header::Header;
@@ -16,7 +16,7 @@ use reads::{cells, header, keys, layout};
 // Whether the card in cell i goes to the new bucket maxp + p.
 fn moves(w: &[u32], h: Header, i: u32) -> bool
     requires { Sized w.now h × (1 ≤ h.maxp) × (h.maxp + h.p < top) × (1 ≤ i) × (i ≤ h.cards) }
-    ensures { result ≡ movesAt (shapeIn h) w.now h.maxp h.p i }
+    ensures { result ≡ moves_at (shape_in h) w.now h.maxp h.p i }
 {
     let maxp = h.maxp;
     let p = h.p;
@@ -30,7 +30,7 @@ fn moves(w: &[u32], h: Header, i: u32) -> bool
 // chains keep their order. A cell's next word is read before anything behind it is written.
 fn part(w: &mut [u32], h: Header)
     requires { MaySplit w.old h }
-    ensures { w.new ≡ partWords h.cards (shapeIn h) h.maxp h.p w.old 0 0 (bucketWord (shapeIn h) w.old h.p) }
+    ensures { w.new ≡ part_words h.cards (shape_in h) h.maxp h.p w.old 0 0 (bucket_word (shape_in h) w.old h.p) }
 {
     let maxp = h.maxp;
     let p = h.p;
@@ -57,7 +57,7 @@ fn part(w: &mut [u32], h: Header)
 // Bucket n appears, and goes: its segment is taken, and freed, with its first bucket.
 fn open_bucket(w: &mut [u32], h: Header, n: u32)
     requires { Sized w.old h × (n < h.top) }
-    ensures { w.new ≡ openWords (shapeIn h) w.old n }
+    ensures { w.new ≡ open_words (shape_in h) w.old n }
 {
     let segments = h.segments as u32;
     if n % layout::SEGMENT_SIZE == 0 {
@@ -67,7 +67,7 @@ fn open_bucket(w: &mut [u32], h: Header, n: u32)
 
 fn close_bucket(w: &mut [u32], h: Header, n: u32)
     requires { Sized w.old h × (n < h.top) }
-    ensures { w.new ≡ closeWords (shapeIn h) w.old n }
+    ensures { w.new ≡ close_words (shape_in h) w.old n }
 {
     if n % layout::SEGMENT_SIZE == 0 {
         w[layout::DIRECTORY_AT + (n / layout::SEGMENT_SIZE) as usize] = 0;
@@ -76,8 +76,8 @@ fn close_bucket(w: &mut [u32], h: Header, n: u32)
 
 // maxp and p, words 3 and 4 of the header.
 fn set_state(w: &mut [u32], maxp: u32, p: u32)
-    requires { directoryAt ≤ length w.old }
-    ensures { w.new ≡ set (set w.old maxpAt maxp) p_at p }
+    requires { directory_at ≤ length w.old }
+    ensures { w.new ≡ set (set w.old maxp_at maxp) p_at p }
 {
     w[layout::MAXP_AT] = maxp;
     w[layout::P_AT] = p;
@@ -86,7 +86,7 @@ fn set_state(w: &mut [u32], maxp: u32, p: u32)
 // One bucket more: the chain of bucket p is parted, the new bucket's segment is taken if it is the first there, p grows.
 pub fn split(w: &mut [u32], h: Header)
     requires { MaySplit w.old h }
-    ensures { w.new ≡ splitWords (shapeIn h) w.old }
+    ensures { w.new ≡ split_words (shape_in h) w.old }
 {
     part(w, h);
     open_bucket(w, h, h.maxp + h.p);
@@ -95,8 +95,8 @@ pub fn split(w: &mut [u32], h: Header)
 
 // The last cell of bucket b's chain, 0 for none.
 fn last_of(w: &[u32], h: Header, b: u32) -> u32
-    requires { Sized w.now h × (b < h.top) × Ends h.cards (nextCard (shapeIn h) w.now) (bucketWord (shapeIn h) w.now b) }
-    ensures { result ≡ lastFrom (shapeIn h) w.now (bucketWord (shapeIn h) w.now b) }
+    requires { Sized w.now h × (b < h.top) × Ends h.cards (next_card (shape_in h) w.now) (bucket_word (shape_in h) w.now b) }
+    ensures { result ≡ last_from (shape_in h) w.now (bucket_word (shape_in h) w.now b) }
 {
     let mut i = cells::bucket_word(w, h, b);
     let mut last: u32 = 0;
@@ -111,7 +111,7 @@ fn last_of(w: &[u32], h: Header, b: u32) -> u32
 // segment is freed if it was the first there.
 pub fn join(w: &mut [u32], h: Header)
     requires { MayJoin w.old h }
-    ensures { w.new ≡ joinWords (shapeIn h) w.old (last_of (shapeIn h) w.old (lowP h.maxp h.p)) }
+    ensures { w.new ≡ join_words (shape_in h) w.old (last_of (shape_in h) w.old (low_p h.maxp h.p)) }
 {
     let maxp = h.maxp;
     let p = h.p;

@@ -2,13 +2,13 @@
 // alone; what it did is said of the whole words by the function that lends the part.
 ghost use Rattle.std.specs.Prelude.{◌≡◌, true, cond, ◌∷◌, ◌+◌, ◌-◌, ◌*◌, ◌≤◌, ◌<◌, eqb, length, set, take, replicate};
 ghost use Rattle.std.proofs.lemmas.List.Edits.{sets};
-ghost use Rattle.model.specs.Bounds.{leastWidth};
-ghost use Rattle.model.specs.Serial.{validSerial};
-ghost use Rattle.model.specs.Layout.{faultsHeldAt, freeAt, toNext, toFirst, toLast, toCount, segmentsAt, faultWidth, follow, last as last_of};
-ghost use Rattle.model.specs.Meaning.{nextFault};
-ghost use Rattle.model.specs.Words.{cardAt, faultAt, link_at, newWords, placeWords, fileWords, clearWords, giveWords, removeWords};
-ghost use Rattle.model.specs.Shape.{cardWidth};
-ghost use Rattle.reads.specs.Cells.{shapeIn, Sized};
+ghost use Rattle.model.specs.Bounds.{least_width};
+ghost use Rattle.model.specs.Serial.{valid_serial};
+ghost use Rattle.model.specs.Layout.{faults_held_at, free_at, to_next, to_first, to_last, to_count, segments_at, fault_width, follow, last as last_of};
+ghost use Rattle.model.specs.Meaning.{next_fault};
+ghost use Rattle.model.specs.Words.{card_at, fault_at, link_at, new_words, place_words, file_words, clear_words, give_words, remove_words};
+ghost use Rattle.model.specs.Shape.{card_width};
+ghost use Rattle.reads.specs.Cells.{shape_in, Sized};
 ghost use Rattle.reads.specs.Chains.{Ends};
 ghost use Rattle.writer.specs.Writes.{MayPlace, MayFile, MayRemove};
 
@@ -46,7 +46,7 @@ fn set_card(cards: &mut [u32], width: usize, i: u32, k: usize, v: u32)
 
 // The whole of card cell i.
 fn fill_card(cards: &mut [u32], width: usize, i: u32, words: [u32; layout::CARD_WIDTH])
-    requires { (1 ≤ i) × (width * i ≤ length cards.old) × (leastWidth ≤ width) }
+    requires { (1 ≤ i) × (width * i ≤ length cards.old) × (least_width ≤ width) }
     ensures { cards.new ≡ sets cards.old (width * (i - 1)) words }
 {
     let cell = (i - 1) as usize;
@@ -55,16 +55,16 @@ fn fill_card(cards: &mut [u32], width: usize, i: u32, words: [u32; layout::CARD_
 
 // Word k of fault cell i, in the fault part.
 fn set_fault(faults: &mut [u32], i: u32, k: usize, v: u32)
-    requires { (1 ≤ i) × (faultWidth * i ≤ length faults.old) × (k < faultWidth) }
-    ensures { faults.new ≡ set faults.old (faultWidth * (i - 1) + k) v }
+    requires { (1 ≤ i) × (fault_width * i ≤ length faults.old) × (k < fault_width) }
+    ensures { faults.new ≡ set faults.old (fault_width * (i - 1) + k) v }
 {
     faults[layout::FAULT_WIDTH * ((i - 1) as usize) + k] = v;
 }
 
 // The whole of fault cell i.
 fn fill_fault(faults: &mut [u32], i: u32, words: [u32; layout::FAULT_WIDTH])
-    requires { (1 ≤ i) × (faultWidth * i ≤ length faults.old) }
-    ensures { faults.new ≡ sets faults.old (faultWidth * (i - 1)) words }
+    requires { (1 ≤ i) × (fault_width * i ≤ length faults.old) }
+    ensures { faults.new ≡ sets faults.old (fault_width * (i - 1)) words }
 {
     write(faults, layout::FAULT_WIDTH * ((i - 1) as usize), &words);
 }
@@ -72,7 +72,7 @@ fn fill_fault(faults: &mut [u32], i: u32, words: [u32; layout::FAULT_WIDTH])
 // A bucket's word, a word of a cell and a whole cell, in the whole words: each lends its part to the narrow writer.
 pub fn put_bucket(w: &mut [u32], h: Header, b: u32, v: u32)
     requires { Sized w.old h × (b < h.top) }
-    ensures { w.new ≡ set w.old (segmentsAt (shapeIn h) + b) v }
+    ensures { w.new ≡ set w.old (segments_at (shape_in h) + b) v }
 {
     let a = h.segments;
     let e = h.base;
@@ -81,7 +81,7 @@ pub fn put_bucket(w: &mut [u32], h: Header, b: u32, v: u32)
 
 pub fn put_card(w: &mut [u32], h: Header, i: u32, k: usize, v: u32)
     requires { Sized w.old h × (1 ≤ i) × (i ≤ h.cards) × (k < h.width) }
-    ensures { w.new ≡ set w.old (cardAt (shapeIn h) i k) v }
+    ensures { w.new ≡ set w.old (card_at (shape_in h) i k) v }
 {
     let a = h.base;
     let e = h.behind;
@@ -90,7 +90,7 @@ pub fn put_card(w: &mut [u32], h: Header, i: u32, k: usize, v: u32)
 
 pub fn put_card_cell(w: &mut [u32], h: Header, i: u32, words: [u32; layout::CARD_WIDTH])
     requires { Sized w.old h × (1 ≤ i) × (i ≤ h.cards) }
-    ensures { w.new ≡ sets w.old (cardAt (shapeIn h) i toNext) words }
+    ensures { w.new ≡ sets w.old (card_at (shape_in h) i to_next) words }
 {
     let a = h.base;
     let e = h.behind;
@@ -98,8 +98,8 @@ pub fn put_card_cell(w: &mut [u32], h: Header, i: u32, words: [u32; layout::CARD
 }
 
 pub fn put_fault(w: &mut [u32], h: Header, i: u32, k: usize, v: u32)
-    requires { Sized w.old h × (1 ≤ i) × (i ≤ h.faults) × (k < faultWidth) }
-    ensures { w.new ≡ set w.old (faultAt (shapeIn h) i k) v }
+    requires { Sized w.old h × (1 ≤ i) × (i ≤ h.faults) × (k < fault_width) }
+    ensures { w.new ≡ set w.old (fault_at (shape_in h) i k) v }
 {
     let a = h.behind;
     set_fault(&mut w[a..], i, k, v);
@@ -107,7 +107,7 @@ pub fn put_fault(w: &mut [u32], h: Header, i: u32, k: usize, v: u32)
 
 pub fn put_fault_cell(w: &mut [u32], h: Header, i: u32, words: [u32; layout::FAULT_WIDTH])
     requires { Sized w.old h × (1 ≤ i) × (i ≤ h.faults) }
-    ensures { w.new ≡ sets w.old (faultAt (shapeIn h) i toNext) words }
+    ensures { w.new ≡ sets w.old (fault_at (shape_in h) i to_next) words }
 {
     let a = h.behind;
     fill_fault(&mut w[a..], i, words);
@@ -116,7 +116,7 @@ pub fn put_fault_cell(w: &mut [u32], h: Header, i: u32, words: [u32; layout::FAU
 // Which cell stands behind cell i of bucket b's chain: the next word of i, or the bucket's word where i is 0.
 pub fn link(w: &mut [u32], h: Header, b: u32, i: u32, v: u32)
     requires { Sized w.old h × (b < h.top) × (i ≤ h.cards) }
-    ensures { w.new ≡ set w.old (link_at (shapeIn h) b i) v }
+    ensures { w.new ≡ set w.old (link_at (shape_in h) b i) v }
 {
     if i == 0 {
         put_bucket(w, h, b, v);
@@ -127,8 +127,8 @@ pub fn link(w: &mut [u32], h: Header, b: u32, i: u32, v: u32)
 
 // The words of a new card: no cell behind it, its serial, and no faults.
 fn card_words(serial: [u8; 16], len: usize) -> [u32; layout::CARD_WIDTH]
-    requires { validSerial serial len ≡ true }
-    ensures { result ≡ newWords (take len serial) }
+    requires { valid_serial serial len ≡ true }
+    ensures { result ≡ new_words (take len serial) }
 {
     let n = len as u32;
     let key = serial::pack(serial);
@@ -137,8 +137,8 @@ fn card_words(serial: [u8; 16], len: usize) -> [u32; layout::CARD_WIDTH]
 
 // A new card takes the first free cell, behind cell `last` of bucket b's chain or as its first.
 pub fn place(w: &mut [u32], h: Header, b: u32, last: u32, serial: [u8; 16], len: usize)
-    requires { MayPlace w.old h b last × (validSerial serial len ≡ true) }
-    ensures { w.new ≡ placeWords (shapeIn h) w.old b last (take len serial) }
+    requires { MayPlace w.old h b last × (valid_serial serial len ≡ true) }
+    ensures { w.new ≡ place_words (shape_in h) w.old b last (take len serial) }
 {
     let new = w[layout::FREE_AT];
     let next = cells::card_word(w, h, new, layout::TO_NEXT);
@@ -153,7 +153,7 @@ pub fn place(w: &mut [u32], h: Header, b: u32, last: u32, serial: [u8; 16], len:
 // Which fault stands behind fault `last` of the card in cell i: the next word of `last`, or the card's first-fault word where it is 0.
 fn link_fault(w: &mut [u32], h: Header, i: u32, last: u32, v: u32)
     requires { Sized w.old h × (last ≤ h.faults) × (1 ≤ i) × (i ≤ h.cards) }
-    ensures { w.new ≡ set w.old (cond (eqb last 0) (cardAt (shapeIn h) i toFirst) (faultAt (shapeIn h) last toNext)) v }
+    ensures { w.new ≡ set w.old (cond (eqb last 0) (card_at (shape_in h) i to_first) (fault_at (shape_in h) last to_next)) v }
 {
     if last == 0 {
         put_card(w, h, i, layout::TO_FIRST, v);
@@ -165,7 +165,7 @@ fn link_fault(w: &mut [u32], h: Header, i: u32, last: u32, v: u32)
 // A card's last fault and fault count, and the faults held.
 fn put_counts(w: &mut [u32], h: Header, i: u32, last: u32, count: u32, held: u32)
     requires { Sized w.old h × (1 ≤ i) × (i ≤ h.cards) }
-    ensures { w.new ≡ set (set (set w.old (cardAt (shapeIn h) i toLast) last) (cardAt (shapeIn h) i toCount) count) faultsHeldAt held }
+    ensures { w.new ≡ set (set (set w.old (card_at (shape_in h) i to_last) last) (card_at (shape_in h) i to_count) count) faults_held_at held }
 {
     put_card(w, h, i, layout::TO_LAST, last);
     put_card(w, h, i, layout::TO_COUNT, count);
@@ -175,7 +175,7 @@ fn put_counts(w: &mut [u32], h: Header, i: u32, last: u32, count: u32, held: u32
 // A fault takes the first free fault cell, behind the last fault of the card in the cell.
 pub fn file_at(w: &mut [u32], h: Header, cell: u32, day: u32, code: u32)
     requires { MayFile w.old h cell }
-    ensures { w.new ≡ fileWords (shapeIn h) w.old cell day code }
+    ensures { w.new ≡ file_words (shape_in h) w.old cell day code }
 {
     let old: &[u32] = w;
     let new = old[layout::FREE_FAULTS_AT];
@@ -191,8 +191,8 @@ pub fn file_at(w: &mut [u32], h: Header, cell: u32, day: u32, code: u32)
 
 // Each fault cell from `first` on is zero but for its next word.
 fn clear_history(w: &mut [u32], h: Header, first: u32)
-    requires { Sized w.old h × Ends h.faults (nextFault (shapeIn h) w.old) first }
-    ensures { w.new ≡ clearWords h.faults (shapeIn h) w.old first }
+    requires { Sized w.old h × Ends h.faults (next_fault (shape_in h) w.old) first }
+    ensures { w.new ≡ clear_words h.faults (shape_in h) w.old first }
 {
     let mut i = first;
     while i != 0 {
@@ -205,8 +205,8 @@ fn clear_history(w: &mut [u32], h: Header, first: u32)
 
 // A history goes, in its order, to the front of the free fault cells: they stand behind its last cell.
 fn give_back(w: &mut [u32], h: Header, first: u32, last: u32)
-    requires { Sized w.old h × Ends h.faults (nextFault (shapeIn h) w.old) first × (last ≡ last_of (follow h.faults (nextFault (shapeIn h) w.old) first)) }
-    ensures { w.new ≡ giveWords (shapeIn h) w.old first last }
+    requires { Sized w.old h × Ends h.faults (next_fault (shape_in h) w.old) first × (last ≡ last_of (follow h.faults (next_fault (shape_in h) w.old) first)) }
+    ensures { w.new ≡ give_words (shape_in h) w.old first last }
 {
     if first == 0 {
         return;
@@ -220,7 +220,7 @@ fn give_back(w: &mut [u32], h: Header, first: u32, last: u32)
 // A card cell goes to the front of the free ones.
 fn free_card(w: &mut [u32], h: Header, i: u32, free: u32)
     requires { Sized w.old h × (1 ≤ i) × (i ≤ h.cards) }
-    ensures { w.new ≡ set (sets w.old (cardAt (shapeIn h) i toNext) (free ∷ replicate (cardWidth (shapeIn h) - 1) 0)) freeAt i }
+    ensures { w.new ≡ set (sets w.old (card_at (shape_in h) i to_next) (free ∷ replicate (card_width (shape_in h) - 1) 0)) free_at i }
 {
     put_card_cell(w, h, i, [free, 0, 0, 0, 0, 0, 0, 0, 0]);
     w[layout::FREE_AT] = i;
@@ -230,7 +230,7 @@ fn free_card(w: &mut [u32], h: Header, i: u32, free: u32)
 // by, and its cell is free.
 pub fn remove_at(w: &mut [u32], h: Header, b: u32, prev: u32, cell: u32)
     requires { MayRemove w.old h b prev cell }
-    ensures { w.new ≡ removeWords (shapeIn h) w.old b prev cell }
+    ensures { w.new ≡ remove_words (shape_in h) w.old b prev cell }
 {
     let old: &[u32] = w;
     let next = cells::card_word(old, h, cell, layout::TO_NEXT);

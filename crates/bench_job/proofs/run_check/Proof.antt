@@ -2,12 +2,12 @@
 use native.Mathlib.Omega.{arith}
 use borrow.Author.Rules.{rules}
 use Rattle.model.specs.Layout.{shape_of}
-use Rattle.model.proofs.Shapes.{need-ever}
+use Rattle.model.proofs.Shapes.{need_ever}
 use Rattle.bench_job.proofs.run_check.Statement.{statement}
 use Rattle.bench_job.proofs.run_check.Tie as tie
 
-check-requires : tie.Need-check-requires
-check-requires c κs = omega (arith, need-ever (shape_of c.before.before.args.words.now))
+check_requires : tie.Need-check-requires
+check_requires c κs = omega (arith, need_ever (shape_of c.before.before.args.words.now))
 
-pub run-check-spec : {M : Type 1} → statement M
-run-check-spec = tie.close (tie.spec check-requires (λ c κs. search rules) (λ c. search rules))
+pub run_check_spec : {M : Type 1} → statement M
+run_check_spec = tie.close (tie.spec check_requires (λ c κs. search rules) (λ c. search rules))

@@ -7,19 +7,19 @@ use lib.ListN.{length}
 use Rattle.bench_job.proofs.run_frames.Statement.{statement}
 use Rattle.bench_job.proofs.run_frames.Tie as tie
 
-abbrev invariant-loop : tie.invariant-loop
-invariant-loop input from words₀ scratch₀ out₀ room₀ at₀ sums₀ words scratch out room at sums =
+abbrev invariant_loop : tie.invariant-loop
+invariant_loop input from words₀ scratch₀ out₀ room₀ at₀ sums₀ words scratch out room at sums =
     (length words ≡ length words₀) × (length out ≡ length out₀) × (length room ≡ length room₀)
 
-abbrev decreases-loop : tie.decreases-loop
-decreases-loop input from words₀ scratch₀ out₀ room₀ at₀ sums₀ words scratch out room at sums = length input - at
+abbrev decreases_loop : tie.decreases-loop
+decreases_loop input from words₀ scratch₀ out₀ room₀ at₀ sums₀ words scratch out room at sums = length input - at
 
-pub run-frames-spec : {M : Type 1} → statement M
-run-frames-spec =
+pub run_frames_spec : {M : Type 1} → statement M
+run_frames_spec =
     tie.close
     (tie.spec
-    invariant-loop
-    decreases-loop
+    invariant_loop
+    decreases_loop
     (λ c. search rules)
     (λ c κs. search rules)
     (λ c. search rules)

@@ -6,19 +6,19 @@ use lib.ListN.{length}
 use Rattle.bench_job.proofs.run_turns.Statement.{statement}
 use Rattle.bench_job.proofs.run_turns.Tie as tie
 
-abbrev invariant-loop : tie.invariant-loop
-invariant-loop input from turns words₀ scratch₀ out₀ room₀ sums₀ turn₀ words scratch out room sums turn =
+abbrev invariant_loop : tie.invariant-loop
+invariant_loop input from turns words₀ scratch₀ out₀ room₀ sums₀ turn₀ words scratch out room sums turn =
     (length words ≡ length words₀) × (length out ≡ length out₀) × (length room ≡ length room₀)
 
-abbrev decreases-loop : tie.decreases-loop
-decreases-loop input from turns words₀ scratch₀ out₀ room₀ sums₀ turn₀ words scratch out room sums turn = turns - turn
+abbrev decreases_loop : tie.decreases-loop
+decreases_loop input from turns words₀ scratch₀ out₀ room₀ sums₀ turn₀ words scratch out room sums turn = turns - turn
 
-pub run-turns-spec : {M : Type 1} → statement M
-run-turns-spec =
+pub run_turns_spec : {M : Type 1} → statement M
+run_turns_spec =
     tie.close
     (tie.spec
-    invariant-loop
-    decreases-loop
+    invariant_loop
+    decreases_loop
     (λ c. search rules)
     (λ c κs. search rules)
     (λ c. search rules)

@@ -4,18 +4,18 @@ use Rattle.std.proofs.Common.{◌≡◌, ◌-◌, ◌≤◌, length, arith, rule
 use Rattle.bench_report.proofs.read_words.Statement.{statement}
 use Rattle.bench_report.proofs.read_words.Tie as tie
 
-abbrev invariant-loop : tie.invariant-loop
-invariant-loop input words₀ n₀ at₀ words n at = (at ≤ length input) × (n ≤ length words₀) × (length words ≡ length words₀)
+abbrev invariant_loop : tie.invariant-loop
+invariant_loop input words₀ n₀ at₀ words n at = (at ≤ length input) × (n ≤ length words₀) × (length words ≡ length words₀)
 
-abbrev decreases-loop : tie.decreases-loop
-decreases-loop input words₀ n₀ at₀ words n at = length words₀ - n
+abbrev decreases_loop : tie.decreases-loop
+decreases_loop input words₀ n₀ at₀ words n at = length words₀ - n
 
-pub read-words-spec : {M : Type 1} → statement M
-read-words-spec =
+pub read_words_spec : {M : Type 1} → statement M
+read_words_spec =
     tie.close
     (tie.spec
-    invariant-loop
-    decreases-loop
+    invariant_loop
+    decreases_loop
     (λ c. search rules)
     (λ c. search rules)
     (λ c. search rules)

@@ -1,25 +1,25 @@
 -- `bench_report::run_group` is safe: a report that is not refused is over stores that are sound, and over no more of them than it takes.
 use Rattle.std.proofs.Common.{◌≡◌, ℕ, ◌≤◌, true, List, length, sym, ◌∙◌, rules}
-use Rattle.model.specs.Report.{mostStores, runSound, reportCall}
-use Rattle.model.proofs.ReportCalls.{report-numbers}
+use Rattle.model.specs.Report.{most_stores, run_sound, report_call}
+use Rattle.model.proofs.ReportCalls.{report_numbers}
 use Rattle.store.specs.declared.answer.Wrote.{Wrote}
 use Rattle.report.specs.Reports.{Reports}
 use Rattle.bench_report.proofs.run_group.Statement.{statement}
 use Rattle.bench_report.proofs.run_group.Tie as tie
 
-done-sound : (run ns scratch out : List ℕ) {r : Wrote} {left marks : List ℕ} → Reports (reportCall run ns scratch out) r left marks → r.number ≡ 0
-    → (runSound run ns ≡ true) × (length ns ≤ mostStores)
-done-sound run ns scratch out h z =
-    let n = (report-numbers run ns scratch out).done.0 (sym h.answer.number_is ∙ z) in
+done_sound : (run ns scratch out : List ℕ) {r : Wrote} {left marks : List ℕ} → Reports (report_call run ns scratch out) r left marks → r.number ≡ 0
+    → (run_sound run ns ≡ true) × (length ns ≤ most_stores)
+done_sound run ns scratch out h z =
+    let n = (report_numbers run ns scratch out).done.0 (sym h.answer.number_is ∙ z) in
     (n.0.1, n.0.0.2)
 
-report-sound-requires : tie.Need-report-sound-requires
-report-sound-requires c κs =
+report_sound_requires : tie.Need-report-sound-requires
+report_sound_requires c κs =
     let e = c.before.before in
-    done-sound _ _ _ _ e.before.before.before.before.before.before.before.report.ensures e.if1.false
+    done_sound _ _ _ _ e.before.before.before.before.before.before.before.report.ensures e.if1.false
 
-pub run-group-spec : {M : Type 1} → statement M
-run-group-spec =
+pub run_group_spec : {M : Type 1} → statement M
+run_group_spec =
     tie.close
     (tie.spec
     (λ c κs. search rules)
@@ -30,7 +30,7 @@ run-group-spec =
     (λ c. search rules)
     (λ c. search rules)
     (λ c. search rules)
-    report-sound-requires
+    report_sound_requires
     (λ c κs. search rules)
     (λ c. search rules)
     (λ c. search rules)

@@ -4,19 +4,19 @@ use Rattle.std.proofs.Common.{◌≡◌, ◌-◌, ◌≤◌, length, arith, rule
 use Rattle.bench_report.proofs.run_groups.Statement.{statement}
 use Rattle.bench_report.proofs.run_groups.Tie as tie
 
-abbrev invariant-loop : tie.invariant-loop
-invariant-loop kind group run lengths scratch₀ out₀ sums₀ at₀ i₀ scratch out sums at i =
+abbrev invariant_loop : tie.invariant-loop
+invariant_loop kind group run lengths scratch₀ out₀ sums₀ at₀ i₀ scratch out sums at i =
     (at ≤ length run) × (i ≤ length lengths) × (length scratch ≡ length scratch₀) × (length out ≡ length out₀)
 
-abbrev decreases-loop : tie.decreases-loop
-decreases-loop kind group run lengths scratch₀ out₀ sums₀ at₀ i₀ scratch out sums at i = length lengths - i
+abbrev decreases_loop : tie.decreases-loop
+decreases_loop kind group run lengths scratch₀ out₀ sums₀ at₀ i₀ scratch out sums at i = length lengths - i
 
-pub run-groups-spec : {M : Type 1} → statement M
-run-groups-spec =
+pub run_groups_spec : {M : Type 1} → statement M
+run_groups_spec =
     tie.close
     (tie.spec
-    invariant-loop
-    decreases-loop
+    invariant_loop
+    decreases_loop
     (λ c. search rules)
     (λ c. search rules)
     (λ c κs. search rules)

@@ -3,16 +3,16 @@ use Rattle.std.proofs.Common.{sym, length-take-le, rules}
 use Rattle.bench_report.proofs.run_input.Statement.{statement}
 use Rattle.bench_report.proofs.run_input.Tie as tie
 
-slice-aggregate-run-words : tie.Need-slice-aggregate-run-words
-slice-aggregate-run-words c = sym (length-take-le _ _ (search rules))
+slice_aggregate_run_words : tie.Need-slice-aggregate-run-words
+slice_aggregate_run_words c = sym (length-take-le _ _ (search rules))
 
-pub run-input-spec : {M : Type 1} → statement M
-run-input-spec =
+pub run_input_spec : {M : Type 1} → statement M
+run_input_spec =
     tie.close
     (tie.spec
     (λ c κs. search rules)
     (λ c. search rules)
-    slice-aggregate-run-words
+    slice_aggregate_run_words
     (λ c κs. search rules)
     (λ c. search rules)
     (λ c. search rules)

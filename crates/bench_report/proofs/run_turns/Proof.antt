@@ -3,18 +3,18 @@ use Rattle.std.proofs.Common.{◌≡◌, ◌-◌, length, rules}
 use Rattle.bench_report.proofs.run_turns.Statement.{statement}
 use Rattle.bench_report.proofs.run_turns.Tie as tie
 
-abbrev invariant-loop : tie.invariant-loop
-invariant-loop kind turns group run lengths scratch₀ out₀ sums₀ turn₀ scratch out sums turn = (length scratch ≡ length scratch₀) × (length out ≡ length out₀)
+abbrev invariant_loop : tie.invariant-loop
+invariant_loop kind turns group run lengths scratch₀ out₀ sums₀ turn₀ scratch out sums turn = (length scratch ≡ length scratch₀) × (length out ≡ length out₀)
 
-abbrev decreases-loop : tie.decreases-loop
-decreases-loop kind turns group run lengths scratch₀ out₀ sums₀ turn₀ scratch out sums turn = turns - turn
+abbrev decreases_loop : tie.decreases-loop
+decreases_loop kind turns group run lengths scratch₀ out₀ sums₀ turn₀ scratch out sums turn = turns - turn
 
-pub run-turns-spec : {M : Type 1} → statement M
-run-turns-spec =
+pub run_turns_spec : {M : Type 1} → statement M
+run_turns_spec =
     tie.close
     (tie.spec
-    invariant-loop
-    decreases-loop
+    invariant_loop
+    decreases_loop
     (λ c κs. search rules)
     (λ c. search rules)
     (λ c κs. search rules)

@@ -3,18 +3,18 @@ use Rattle.std.proofs.Common.{◌-◌, ◌≤◌, length, rules}
 use Rattle.bench_report.proofs.words_of.Statement.{statement}
 use Rattle.bench_report.proofs.words_of.Tie as tie
 
-abbrev invariant-loop : tie.invariant-loop
-invariant-loop lengths sum₀ i₀ sum i = i ≤ length lengths
+abbrev invariant_loop : tie.invariant-loop
+invariant_loop lengths sum₀ i₀ sum i = i ≤ length lengths
 
-abbrev decreases-loop : tie.decreases-loop
-decreases-loop lengths sum₀ i₀ sum i = length lengths - i
+abbrev decreases_loop : tie.decreases-loop
+decreases_loop lengths sum₀ i₀ sum i = length lengths - i
 
-pub words-of-spec : {M : Type 1} → statement M
-words-of-spec =
+pub words_of_spec : {M : Type 1} → statement M
+words_of_spec =
     tie.close
     (tie.spec
-    invariant-loop
-    decreases-loop
+    invariant_loop
+    decreases_loop
     (λ c. search rules)
     (λ c. search rules)
     (λ c. search rules)

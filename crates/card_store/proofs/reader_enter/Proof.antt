@@ -7,5 +7,5 @@ use Rattle.card_store.proofs.reader_enter.Tie as tie
 returns : tie.Need-returns
 returns c = c.before.before.before.before.enter.ensures
 
-pub reader-enter-spec : {M : Type 1} → statement M
-reader-enter-spec = tie.close (tie.spec (λ c κs. tt) (λ c. search rules) (λ c. search rules) returns)
+pub reader_enter_spec : {M : Type 1} → statement M
+reader_enter_spec = tie.close (tie.spec (λ c κs. tt) (λ c. search rules) (λ c. search rules) returns)

@@ -68,8 +68,8 @@ R = T.the_row
 abbrev val : Tally → Val
 val x = LL.val T.the_type T'.the_laws x
 
-abbrev val-done : Done → Val
-val-done x = LL.val D.the_type D'.the_laws x
+abbrev val_done : Done → Val
+val_done x = LL.val D.the_type D'.the_laws x
 
 -- what `work` binds of its parameters at exit
 abbrev Ends : Type 0
@@ -88,18 +88,18 @@ module _ {M : Type 1} {𝓤 : Ura M} (𝓛 : Logic 𝓤) where
   typed : (x : Tally) (v : Val) → Is R x (v ∷ []) → Holds (has_ty T'.mir v) × WT v
   typed x v is = ((LL.lawful T.the_type T'.the_laws 𝓛).typed x _ is).0
 
-  typed-done : (x : Done) (v : Val) → Is D.the_row x (v ∷ []) → Holds (has_ty D'.mir v) × WT v
-  typed-done x v is = ((LL.lawful D.the_type D'.the_laws 𝓛).typed x _ is).0
+  typed_done : (x : Done) (v : Val) → Is D.the_row x (v ∷ []) → Holds (has_ty D'.mir v) × WT v
+  typed_done x v is = ((LL.lawful D.the_type D'.the_laws 𝓛).typed x _ is).0
 
-  typed-ran : (x : Ran) (v : Val) → Is B.the_row x (v ∷ []) → Holds (has_ty B'.mir v) × WT v
-  typed-ran x v is = ((LL.lawful B.the_type B'.the_laws 𝓛).typed x _ is).0
+  typed_ran : (x : Ran) (v : Val) → Is B.the_row x (v ∷ []) → Holds (has_ty B'.mir v) × WT v
+  typed_ran x v is = ((LL.lawful B.the_type B'.the_laws 𝓛).typed x _ is).0
 
   -- what whoever holds what `work` returns knows of its fields
-  the-done : (r : Ran) (v : Val) → Is B.the_row r (v ∷ []) → Is D.the_row r.done (val-done r.done ∷ [])
-  the-done r v is = (LL.owed B.the_type B'.the_laws r _ is).0
+  the_done : (r : Ran) (v : Val) → Is B.the_row r (v ∷ []) → Is D.the_row r.done (val_done r.done ∷ [])
+  the_done r v is = (LL.owed B.the_type B'.the_laws r _ is).0
 
-  the-struct : (r : Ran) (v : Val) → Is B.the_row r (v ∷ []) → Is R r.tally (val r.tally ∷ [])
-  the-struct r v is = (LL.owed B.the_type B'.the_laws r _ is).1.0
+  the_struct : (r : Ran) (v : Val) → Is B.the_row r (v ∷ []) → Is R r.tally (val r.tally ∷ [])
+  the_struct r v is = (LL.owed B.the_type B'.the_laws r _ is).1.0
 
 module _ {M : Type 1} {𝓤 : Ura M} (𝓛 : Logic 𝓤) (at_mem : Memory → SProp 𝓤) (run' : Routine → Fun 𝓤) (κ₀ κ₁ κ₂ κ₃ κ' : Lft) (q₀ q₁ q₂ q₃ q' : Share) (x₀ x₁ x₂ x₃ : MutBor (List ℕ)) (b o : ℕ) (γ : GName) (h : Tally) where
   open 𝓛 use {H}
@@ -130,11 +130,11 @@ module _ {M : Type 1} {𝓤 : Ura M} (𝓛 : Logic 𝓤) (at_mem : Memory → SP
   abbrev passed : Passed
   passed = (x₀, (x₁, (x₂, (x₃, (h, tt)))))
 
-  abbrev passed-vals : List Val × (List Val × (List Val × (List Val × (List Val × Unit {0}))))
-  passed-vals = (s x₀ ∷ [], (s x₁ ∷ [], (s x₂ ∷ [], (s x₃ ∷ [], (val h ∷ [], tt)))))
+  abbrev passed_vals : List Val × (List Val × (List Val × (List Val × (List Val × Unit {0}))))
+  passed_vals = (s x₀ ∷ [], (s x₁ ∷ [], (s x₂ ∷ [], (s x₃ ∷ [], (val h ∷ [], tt)))))
 
   abbrev to : (Callee 𝓛 at_mem run').Ghost
-  to = (((κ₀, (κ₁, (κ₂, (κ₃, tt)))), (q₀, (q₁, (q₂, (q₃, tt)))), tt, passed, passed-vals), tt)
+  to = (((κ₀, (κ₁, (κ₂, (κ₃, tt)))), (q₀, (q₁, (q₂, (q₃, tt)))), tt, passed, passed_vals), tt)
 
   abbrev tokens : Item 𝓤
   tokens = ‵ (flft κ₀ q₀) ⊛ ‵ (flft κ₁ q₁) ⊛ ‵ (flft κ₂ q₂) ⊛ ‵ (flft κ₃ q₃) ⊛ ‵ ftrue
@@ -142,18 +142,18 @@ module _ {M : Type 1} {𝓤 : Ura M} (𝓛 : Logic 𝓤) (at_mem : Memory → SP
   abbrev tys : List RattleType
   tys = MutSlice (named 0) κ₀ u32 ∷ MutSlice (named 1) κ₁ u8 ∷ ShrSlice (named 2) κ₂ u8 ∷ MutSlice (named 3) κ₃ u8 ∷ R ∷ []
 
-  asks : ent 𝓤 (⋆ 𝓛 (tokens ∷ ‵ (owns tys passed passed-vals) ∷ [])) ((Callee 𝓛 at_mem run').pre to)
-  asks = qed 𝓛 (tokens ∷ ‵ (owns tys passed passed-vals) ∷ []) ∵ join ! $ frame ! $ done !
+  asks : ent 𝓤 (⋆ 𝓛 (tokens ∷ ‵ (owns tys passed passed_vals) ∷ [])) ((Callee 𝓛 at_mem run').pre to)
+  asks = qed 𝓛 (tokens ∷ ‵ (owns tys passed passed_vals) ∷ []) ∵ join ! $ frame ! $ done !
 
   -- what is said of the outcome, of what `work` returns and of its slices' last lists
   abbrev Says : Ran → Ends → Type 0
   Says r zs = Did x₀.now x₁.now x₂.now x₃.now h r.done r.tally zs.0 zs.1.0 zs.1.1.1.0
 
-  exits : (r : Ran) (zs : Ends) → Is D.the_row r.done (val-done r.done ∷ []) → Says r zs → length zs.0 ≡ length x₀.now → length zs.1.0 ≡ length x₁.now → length zs.1.1.1.0 ≡ length x₃.now
-      → ent 𝓤 (⋆ 𝓛 (‵ (fobs γ (R.coded.code r.tally)) ∷ ‵ (fbor κ' (Body (mem R) b o γ)) ∷ ‵ (flft κ' q') ∷ tokens ∷ ‵ (finally u8 x₃.name zs.1.1.1.0) ∷ ‵ (finally u8 x₁.name zs.1.0) ∷ ‵ (finally u32 x₀.name zs.0) ∷ [])) (Post (val-done r.done))
+  exits : (r : Ran) (zs : Ends) → Is D.the_row r.done (val_done r.done ∷ []) → Says r zs → length zs.0 ≡ length x₀.now → length zs.1.0 ≡ length x₁.now → length zs.1.1.1.0 ≡ length x₃.now
+      → ent 𝓤 (⋆ 𝓛 (‵ (fobs γ (R.coded.code r.tally)) ∷ ‵ (fbor κ' (Body (mem R) b o γ)) ∷ ‵ (flft κ' q') ∷ tokens ∷ ‵ (finally u8 x₃.name zs.1.1.1.0) ∷ ‵ (finally u8 x₁.name zs.1.0) ∷ ‵ (finally u32 x₀.name zs.0) ∷ [])) (Post (val_done r.done))
   exits r zs gd e e₀ e₁ e₃ =
       qed 𝓛 (‵ (fobs γ (R.coded.code r.tally)) ∷ ‵ (fbor κ' (Body (mem R) b o γ)) ∷ ‵ (flft κ' q') ∷ tokens ∷ ‵ (finally u8 x₃.name zs.1.1.1.0) ∷ ‵ (finally u8 x₁.name zs.1.0) ∷ ‵ (finally u32 x₀.name zs.0) ∷ []) ∵
-      suffices ! _ (ends_at 𝓛 here.ended stayed (here.clauses 𝓛 at_mem run') ((κs, (q₀, (q₁, (q₂, (q₃, (q', tt))))), tt, a, vals), tt) (val-done r.done) r.done
+      suffices ! _ (ends_at 𝓛 here.ended stayed (here.clauses 𝓛 at_mem run') ((κs, (q₀, (q₁, (q₂, (q₃, (q', tt))))), tt, a, vals), tt) (val_done r.done) r.done
       (zs.0, (zs.1.0, (tt, (zs.1.1.1.0, (r.tally, tt))))) (e₀, (e₁, (tt, (e₃, (tt, tt)))))) $ says ! e $
       -- the tokens
       move ! (3 ∷ []) $ split ! $ move ! (1 ∷ []) $ split ! $ move ! (1 ∷ []) $ split ! $ move ! (1 ∷ []) $ split ! $ move ! (7 ∷ 1 ∷ []) $ join ! $ move ! (1 ∷ 0 ∷ []) $ join ! $ move ! (1 ∷ 0 ∷ []) $ join ! $ move ! (1 ∷ 0 ∷ []) $ join ! $ move ! (1 ∷ 0 ∷ []) $ join ! $ frame ! $
@@ -191,15 +191,15 @@ module _ {M : Type 1} {𝓤 : Ura M} (𝓛 : Logic 𝓤) (at_mem : Memory → SP
         fsplit ! $ fsplit ! $ move ! (1 ∷ []) $ feq_l ! (λ e₀. move ! (1 ∷ []) $ fsplit ! $ fsplit ! $ move ! (1 ∷ []) $ feq_l ! (λ e₁. move ! (1 ∷ []) $ fsplit ! $ drop ! $ fsplit ! $ fsplit ! $ move ! (1 ∷ []) $ feq_l ! (λ e₃. move ! (1 ∷ []) $
         drop ! $ move ! (3 ∷ []) $ split ! $ move ! (1 ∷ []) $
         -- [the result; the tokens; the last lists; the cell; what it owned; the open borrow; obs; auth; true; the locals]
-        peeks ! B.the_row (Is B.the_row) (shows 𝓛 B.the_row) r (w ∷ []) (λ is. land ! (from ! (stop !)) (init ! 25 refl (typed-ran 𝓛 r w is)) $
+        peeks ! B.the_row (Is B.the_row) (shows 𝓛 B.the_row) r (w ∷ []) (λ is. land ! (from ! (stop !)) (init ! 25 refl (typed_ran 𝓛 r w is)) $
         rewrite ! 25 (λ (u : Val). ‵ (fat full_share B'.mir l₆ 0 u)) (ap only (LL.tells B.the_type B'.the_laws r _ is)) refl $
-        assigns ! (of_opd ! (load ! (from ! (fld ! refl (stop !))) (look_in ! 25 (sub ! 1 refl (whole !))))) (from ! (hop ! (look ! 27 refl) (stop !))) (store_raw ! 5 refl (typed 𝓛 r.tally (val r.tally) (the-struct 𝓛 r w is))) $
-        assigns ! (of_opd ! (load ! (from ! (fld ! refl (stop !))) (look_in ! 25 (sub ! 0 refl (whole !))))) (from ! (stop !)) (init ! 37 refl (typed-done 𝓛 r.done (val-done r.done) (the-done 𝓛 r w is))) $
+        assigns ! (of_opd ! (load ! (from ! (fld ! refl (stop !))) (look_in ! 25 (sub ! 1 refl (whole !))))) (from ! (hop ! (look ! 27 refl) (stop !))) (store_raw ! 5 refl (typed 𝓛 r.tally (val r.tally) (the_struct 𝓛 r w is))) $
+        assigns ! (of_opd ! (load ! (from ! (fld ! refl (stop !))) (look_in ! 25 (sub ! 0 refl (whole !))))) (from ! (stop !)) (init ! 37 refl (typed_done 𝓛 r.done (val_done r.done) (the_done 𝓛 r w is))) $
         -- the borrow is closed at what came back
-        move ! (6 ∷ []) $ drop ! $ owned ! R (Is R) (LL.makes T.the_type T'.the_plain 𝓛) r.tally _ (the-struct 𝓛 r w is) $ move ! (6 ∷ 0 ∷ 7 ∷ 8 ∷ 9 ∷ []) $ closes ! tt R r.tally (val r.tally ∷ []) b o $
+        move ! (6 ∷ []) $ drop ! $ owned ! R (Is R) (LL.makes T.the_type T'.the_plain 𝓛) r.tally _ (the_struct 𝓛 r w is) $ move ! (6 ∷ 0 ∷ 7 ∷ 8 ∷ 9 ∷ []) $ closes ! tt R r.tally (val r.tally ∷ []) b o $
         returns ! (look ! 35 refl) $ forget ! 9 refl $ forget ! 11 refl $ forget ! 13 refl $ forget ! 15 refl $ forget ! 17 refl $ forget ! 19 refl $ forget ! 21 refl $ forget ! 23 refl $ forget ! 25 refl $ forget ! 27 refl $ forget ! 29 refl $ forget ! 31 refl $ forget ! 33 refl $ forget ! 35 refl $
         move ! (35 ∷ 36 ∷ []) $ free1 ! $ move ! (33 ∷ 34 ∷ []) $ free1 ! $ move ! (31 ∷ 32 ∷ []) $ free1 ! $ move ! (29 ∷ 30 ∷ []) $ free1 ! $ move ! (27 ∷ 28 ∷ []) $ free1 ! $ move ! (25 ∷ 26 ∷ []) $ free1 ! $ move ! (23 ∷ 24 ∷ []) $ free1 ! $ move ! (21 ∷ 22 ∷ []) $ free1 ! $ move ! (19 ∷ 20 ∷ []) $ free1 ! $ move ! (17 ∷ 18 ∷ []) $ free1 ! $ move ! (15 ∷ 16 ∷ []) $ free1 ! $ move ! (13 ∷ 14 ∷ []) $ free1 ! $ move ! (11 ∷ 12 ∷ []) $ free1 ! $ move ! (9 ∷ 10 ∷ []) $ free1 ! $ free0 ! $
-        keep ! (0 ∷ 1 ∷ 2 ∷ 4 ∷ 5 ∷ 6 ∷ 7 ∷ []) $ by ! (exits r zs (the-done 𝓛 r w is) e e₀ e₁ e₃)))))))))))))))))))))))))
+        keep ! (0 ∷ 1 ∷ 2 ∷ 4 ∷ 5 ∷ 6 ∷ 7 ∷ []) $ by ! (exits r zs (the_done 𝓛 r w is) e e₀ e₁ e₃)))))))))))))))))))))))))
 
 module _ {M : Type 1} {𝓤 : Ura M} (𝓛 : Logic 𝓤) (at_mem : Memory → SProp 𝓤) (run' : Routine → Fun 𝓤) where
   open 𝓛 use {H}
@@ -220,10 +220,10 @@ meets {𝓤 = 𝓤} 𝓛 at_mem run' 𝓣 known =
     walk_Meets 𝓛 here.ended stayed (goes 𝓛 at_mem run') (here.clauses 𝓛 at_mem run') (WpFn 𝓤 𝓛.H 𝓣.C 𝓣.Λ code.function) (WpFn-mono 𝓤 𝓛.H 𝓛.laws 𝓣 code.function)
     (walks 𝓛 at_mem run' 𝓣.C 𝓣.Λ (fm_of 𝓤 𝓛.H 𝓛.laws 𝓣) known)
 
-pub reader-job-spec : {M : Type 1} → stated.statement M
+pub reader_job_spec : {M : Type 1} → stated.statement M
 unfolding code.routine tables_of
-reader-job-spec 𝓤 𝓛 𝓜 𝓡 =
+reader_job_spec 𝓤 𝓛 𝓜 𝓡 =
     entered 𝓤 𝓛.H (triple_of 𝓛 here.signature (here.spec 𝓛 𝓜.mem 𝓡.run))
     (tables 𝓤 𝓛.H 𝓜 𝓡 code.env).C (tables 𝓤 𝓛.H 𝓜 𝓡 code.env).Λ #card_store·reader-job code.function (code.unfolded 𝓤 𝓛.H 𝓜 𝓡)
     (meets 𝓛 𝓜.mem 𝓡.run (tables_of 𝓤 𝓛.H 𝓜 (tables 𝓤 𝓛.H 𝓜 𝓡 code.env))
-    (cited 𝓤 𝓛.H (Callee 𝓛 𝓜.mem 𝓡.run) 𝓜 𝓡 code.env #job·work called-def.routine code.calls-job::work (called-thm.met 𝓤 𝓛 𝓜 𝓡)))
+    (cited 𝓤 𝓛.H (Callee 𝓛 𝓜.mem 𝓡.run) 𝓜 𝓡 code.env #job·work called_def.routine code.calls-job::work (called_thm.met 𝓤 𝓛 𝓜 𝓡)))

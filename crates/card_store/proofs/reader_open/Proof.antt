@@ -7,5 +7,5 @@ use Rattle.card_store.proofs.reader_open.Tie as tie
 returns : tie.Need-returns
 returns c = c.before.before.open.ensures
 
-pub reader-open-spec : {M : Type 1} → statement M
-reader-open-spec = tie.close (tie.spec (λ c κs. tt) (λ c. search rules) returns)
+pub reader_open_spec : {M : Type 1} → statement M
+reader_open_spec = tie.close (tie.spec (λ c κs. tt) (λ c. search rules) returns)

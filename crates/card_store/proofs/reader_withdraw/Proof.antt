@@ -12,12 +12,12 @@ use Rattle.card_store.proofs.reader_withdraw.Tie as tie
 
 -- what a call leaves, the words first: with a card withdrawn they are those of the store without it
 leaves : {o : Outcome} {r : Answer} {words room scratch : List ℕ} → words ≡ o.words → Gives o.answer r → room ≡ o.room → scratch ≡ o.scratch → Leaves o r words room scratch
-leaves w a m s = record { answer = a; words_are = w; room-is = m; scratch-is = s }
+leaves w a m s = record { answer = a; words_are = w; room_is = m; scratch_is = s }
 
 returns : tie.Need-returns
 returns c = leaves (search rules) (search rules) (search rules) (search rules)
 
-pub reader-withdraw-spec : {M : Type 1} → statement M
-reader-withdraw-spec =
+pub reader_withdraw_spec : {M : Type 1} → statement M
+reader_withdraw_spec =
     tie.close
     (tie.spec (λ c κs. tt) (λ c. search rules) (λ c. search rules) (λ c. search rules) returns)

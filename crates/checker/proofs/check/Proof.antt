@@ -1,4 +1,4 @@
--- `check` meets its contract: over cleaned marks the tests decide soundness (`checked-is-sound`), and what is cleaned in the end does not show
+-- `check` meets its contract: over cleaned marks the tests decide soundness (`checked_is_sound`), and what is cleaned in the end does not show
 -- what was marked.
 use mathlib.Core.Path.{ap, ◌∙◌}
 use borrow.Author.Rules.{rules}
@@ -9,8 +9,8 @@ use Rattle.model.specs.Shape.{need}
 use Rattle.model.specs.Layout.{shape_of}
 use Rattle.model.specs.Calls.{cleaned}
 use Rattle.checker.specs.Checker.{checked}
-use Rattle.checker.proofs.MarkLaws.{rest-cleaned, cleaned-again}
-use Rattle.checker.proofs.Decides.{checked-is-sound}
+use Rattle.checker.proofs.MarkLaws.{rest_cleaned, cleaned_again}
+use Rattle.checker.proofs.Decides.{checked_is_sound}
 use Rattle.checker.proofs.check.Statement.{statement}
 use Rattle.checker.proofs.check.Tie as tie
 
@@ -30,12 +30,12 @@ returns c =
     let e = c.before.before.before.before.before.before.before.before.before.before.clear.ensures ∙ ap (λ (m : ℕ). cleaned m a.scratch.now) n in
     let d = c.before.before.before.before.before.before.all_fit.ensures in
     let m = need (shape_of a.words.now) in (
-      d.ok-is ∙ ap (checked a.words.now) e ∙ checked-is-sound a.words.now a.scratch.now s.requires,
-      c.before.before.clear2.ensures ∙ cleaned-again m a.scratch.now n _ (d.rest ∙ ap (drop m) e ∙ rest-cleaned m a.scratch.now),
+      d.ok_is ∙ ap (checked a.words.now) e ∙ checked_is_sound a.words.now a.scratch.now s.requires,
+      c.before.before.clear2.ensures ∙ cleaned_again m a.scratch.now n _ (d.rest ∙ ap (drop m) e ∙ rest_cleaned m a.scratch.now),
     )
 
-pub check-spec : {M : Type 1} → statement M
-check-spec =
+pub check_spec : {M : Type 1} → statement M
+check_spec =
     tie.close
     (tie.spec
     (λ c κs. tt)

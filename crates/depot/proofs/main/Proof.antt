@@ -7,11 +7,11 @@ use Rattle.depot.proofs.main.Statement.{statement}
 use Rattle.depot.proofs.main.Tie as tie
 
 -- what was read lies within the buffer
-array-share-prefix-input : tie.Need-array-share-prefix-input
-array-share-prefix-input c = subst (Within _) c.before.len.given.1 c.before.before.before.before.read_all.ensures
+array_share_prefix_input : tie.Need-array-share-prefix-input
+array_share_prefix_input c = subst (Within _) c.before.len.given.1 c.before.before.before.before.read_all.ensures
 
-slice-aggregate-write-answers : tie.Need-slice-aggregate-write-answers
-slice-aggregate-write-answers c = sym (length-take-le _ _ (array-share-prefix-input c.before))
+slice_aggregate_write_answers : tie.Need-slice-aggregate-write-answers
+slice_aggregate_write_answers c = sym (length-take-le _ _ (array_share_prefix_input c.before))
 
 pub main_spec : {M : Type 1} → statement M
 main_spec =
@@ -20,8 +20,8 @@ main_spec =
     (λ c. search rules)
     (λ c κs. search rules)
     (λ c. search rules)
-    array-share-prefix-input
-    slice-aggregate-write-answers
+    array_share_prefix_input
+    slice_aggregate_write_answers
     (λ c κs. search rules)
     (λ c. search rules)
     (λ c. search rules)

@@ -8,7 +8,7 @@ use mir.Facts.{to_z-of_z}
 use borrow.Author.Rules.{rules, sfits_of}
 use borrow.Rule.Slice.PartMut.{mid_len, take_put}
 use Rattle.libc.specs.Io.{Moved}
-use Rattle.depot.proofs.Answers.{moved-brings}
+use Rattle.depot.proofs.Answers.{moved_brings}
 use Rattle.depot.proofs.read_on.Statement.{statement}
 use Rattle.depot.proofs.read_on.Tie as tie
 
@@ -20,10 +20,10 @@ returns c =
     let room = length buf - len in
     let read = c.before.before.before.read in
     let moved : Moved room read.result = subst (λ (n : ℕ). Moved n read.result) (mid_len len (length buf) buf (omega arith)) read.ensures in
-    (rw (c.brought.ensures, to_z-of_z {w = w64} (sfits_of read.type-inv)) (moved-brings room read.result moved), take_put len room buf read.new.1.0 start.requires)
+    (rw (c.brought.ensures, to_z-of_z {w = w64} (sfits_of read.type-inv)) (moved_brings room read.result moved), take_put len room buf read.new.1.0 start.requires)
 
-pub read-on-spec : {M : Type 1} → statement M
-read-on-spec =
+pub read_on_spec : {M : Type 1} → statement M
+read_on_spec =
     tie.close
     (tie.spec
     (λ c. search rules)

@@ -2,12 +2,12 @@
 use Prim.Native.Nat.{ℕ, ◌+◌, ◌*◌}
 use mathlib.Core.Path.{sym, ap, ◌∙◌}
 use lib.ListN.{length-replicate}
-use Rattle.disk.proofs.Lengths.{most-words}
+use Rattle.disk.proofs.Lengths.{most_words_lem}
 use Rattle.disk.proofs.file_room.Statement.{statement}
 use Rattle.disk.proofs.file_room.Tie as tie
 
 returns : tie.Need-returns
-returns c = ap (λ (n : ℕ). 4 * n + 1) most-words ∙ sym (length-replicate {A = ℕ} 62593 0)
+returns c = ap (λ (n : ℕ). 4 * n + 1) most_words_lem ∙ sym (length-replicate {A = ℕ} 62593 0)
 
-pub file-room-spec : {M : Type 1} → statement M
-file-room-spec = tie.close (tie.spec returns)
+pub file_room_spec : {M : Type 1} → statement M
+file_room_spec = tie.close (tie.spec returns)

@@ -2,12 +2,12 @@
 use Prim.Native.Nat.{ℕ}
 use mathlib.Core.Path.{sym, ◌∙◌}
 use lib.ListN.{length-replicate}
-use Rattle.disk.proofs.Lengths.{most-words}
+use Rattle.disk.proofs.Lengths.{most_words_lem}
 use Rattle.disk.proofs.room.Statement.{statement}
 use Rattle.disk.proofs.room.Tie as tie
 
 returns : tie.Need-returns
-returns c = most-words ∙ sym (length-replicate {A = ℕ} 15648 0)
+returns c = most_words_lem ∙ sym (length-replicate {A = ℕ} 15648 0)
 
-pub room-spec : {M : Type 1} → statement M
-room-spec = tie.close (tie.spec returns)
+pub room_spec : {M : Type 1} → statement M
+room_spec = tie.close (tie.spec returns)

@@ -4,8 +4,8 @@ use Prim.Native.Nat.{ℕ, ◌*◌}
 use mathlib.Core.Path.{refl, sym, ap, ◌∙◌}
 use lib.Seq.{length-take-le}
 use borrow.Author.Tests.{not-true, not-false}
-use Rattle.disk.proofs.Lengths.{sized-is}
-use Rattle.disk.proofs.Served.{serves-none, serves-some}
+use Rattle.disk.proofs.Lengths.{sized_is}
+use Rattle.disk.proofs.Served.{serves_none, serves_some}
 use borrow.Author.Rules.{rules}
 use Rattle.disk.proofs.serve.Statement.{statement}
 use Rattle.disk.proofs.serve.Tie as tie
@@ -14,26 +14,26 @@ returns : tie.Need-returns
 returns c =
     let s = c.before.before.before.before.before.before.before.before.before.before.before in
     let d = c.before.before.before.before.before.before.before.sized in
-    serves-none s.args.file.now s.args.text.now s.args.out.now refl (sym d.ensures ∙ not-true d.result c.before.before.before.before.before.before.if1.true) c.before.before.before.answer-on.ensures
+    serves_none s.args.file.now s.args.text.now s.args.out.now refl (sym d.ensures ∙ not-true d.result c.before.before.before.before.before.before.if1.true) c.before.before.before.answer-on.ensures
 
-array-borrow-prefix-space : tie.Need-array-borrow-prefix-space
-array-borrow-prefix-space c = let d = c.before.before.before.sized in omega (arith, c.before.room.ensures, (sized-is _ (sym d.ensures ∙ not-false d.result c.before.before.if1.false)).0)
+array_borrow_prefix_space : tie.Need-array-borrow-prefix-space
+array_borrow_prefix_space c = let d = c.before.before.before.sized in omega (arith, c.before.room.ensures, (sized_is _ (sym d.ensures ∙ not-false d.result c.before.before.if1.false)).0)
 
-slice-aggregate-serve-in : tie.Need-slice-aggregate-serve-in
-slice-aggregate-serve-in c = let d = c.before.before.before.before.sized in let r = c.before.before.room in sym (length-take-le _ r.result (omega (arith, r.ensures, (sized-is _ (sym d.ensures ∙ not-false d.result c.before.before.before.if1.false)).0)))
+slice_aggregate_serve_in : tie.Need-slice-aggregate-serve-in
+slice_aggregate_serve_in c = let d = c.before.before.before.before.sized in let r = c.before.before.room in sym (length-take-le _ r.result (omega (arith, r.ensures, (sized_is _ (sym d.ensures ∙ not-false d.result c.before.before.before.if1.false)).0)))
 
-serve-in-requires : tie.Need-serve-in-requires
-serve-in-requires c κs =
+serve_in_requires : tie.Need-serve-in-requires
+serve_in_requires c κs =
     let d = c.before.before.before.before.before.sized in
     let r = c.before.before.before.room in
-    let z = sized-is _ (sym d.ensures ∙ not-false d.result c.before.before.before.before.if1.false) in
+    let z = sized_is _ (sym d.ensures ∙ not-false d.result c.before.before.before.before.if1.false) in
     (z.1 ∙ ap (λ (n : ℕ). 4 * n) (sym (length-take-le _ r.result (omega (arith, r.ensures, z.0)))), c.before.before.before.before.before.before.before.before.before.requires)
 
-returns-2 : tie.Need-returns-2
-returns-2 c = let s = c.before.before.before.before.before.before.before.before.before.before.before.before.before.before.before in let d = c.before.before.before.before.before.before.before.before.before.before.before.sized in serves-some s.args.file.now s.args.text.now s.args.out.now (sym d.ensures ∙ not-false d.result c.before.before.before.before.before.before.before.before.before.before.if1.false) c.before.before.before.before.before.serve-in.ensures
+returns_2 : tie.Need-returns-2
+returns_2 c = let s = c.before.before.before.before.before.before.before.before.before.before.before.before.before.before.before in let d = c.before.before.before.before.before.before.before.before.before.before.before.sized in serves_some s.args.file.now s.args.text.now s.args.out.now (sym d.ensures ∙ not-false d.result c.before.before.before.before.before.before.before.before.before.before.if1.false) c.before.before.before.before.before.serve-in.ensures
 
-pub serve-spec : {M : Type 1} → statement M
-serve-spec =
+pub serve_spec : {M : Type 1} → statement M
+serve_spec =
     tie.close
     (tie.spec
     (λ c κs. search rules)
@@ -43,9 +43,9 @@ serve-spec =
     (λ c. search rules)
     returns
     (λ c κs. search rules)
-    array-borrow-prefix-space
-    slice-aggregate-serve-in
-    serve-in-requires
+    array_borrow_prefix_space
+    slice_aggregate_serve_in
+    serve_in_requires
     (λ c. search rules)
     (λ c. search rules)
-    returns-2)
+    returns_2)

@@ -2,17 +2,17 @@
 use borrow.Author.Rules.{rules}
 use Prim.Native.Nat.{ℕ}
 use lib.ListN.{length-replicate}
-use Rattle.reader.specs.Depot.{outputSize, wholeSize, blank, depotText}
+use Rattle.reader.specs.Depot.{output_size, whole_size, blank, depot_text}
 use Rattle.reader.proofs.answer.Statement.{statement}
 use Rattle.reader.proofs.answer.Tie as tie
 
-answer-on-requires : tie.Need-answer-on-requires
-unfolding outputSize
-answer-on-requires c κs = length-replicate {A = ℕ} wholeSize 0
+answer_on_requires : tie.Need-answer-on-requires
+unfolding output_size
+answer_on_requires c κs = length-replicate {A = ℕ} whole_size 0
 
 returns : tie.Need-returns
-unfolding outputSize blank depotText
-returns c = rw (← c.before.before.before.before.before.fresh-store.ensures) c.before.before.answer-on.ensures.text-is
+unfolding output_size blank depot_text
+returns c = rw (← c.before.before.before.before.before.fresh-store.ensures) c.before.before.answer-on.ensures.text_is
 
-pub answer-spec : {M : Type 1} → statement M
-answer-spec = tie.close (tie.spec (λ c κs. search rules) (λ c. search rules) (λ c. search rules) answer-on-requires returns)
+pub answer_spec : {M : Type 1} → statement M
+answer_spec = tie.close (tie.spec (λ c κs. search rules) (λ c. search rules) (λ c. search rules) answer_on_requires returns)

@@ -3,43 +3,43 @@ use mathlib.Core.Path.{sym}
 use native.Mathlib.Omega.{arith}
 use borrow.Author.Rules.{rules}
 use lib.Seq.{length-take-le}
-use Rattle.reader.specs.Depot.{outputSize}
-use Rattle.reader.proofs.Wholes.{whole-fits, whole-answers}
+use Rattle.reader.specs.Depot.{output_size}
+use Rattle.reader.proofs.Wholes.{whole_fits, whole_answers}
 use Rattle.reader.proofs.answer_on.Statement.{statement}
 use Rattle.reader.proofs.answer_on.Tie as tie
 
-slice-relend-prefix-run-on : tie.Need-slice-relend-prefix-run-on
-unfolding outputSize
-slice-relend-prefix-run-on c = omega arith
+slice_relend_prefix_run_on : tie.Need-slice-relend-prefix-run-on
+unfolding output_size
+slice_relend_prefix_run_on c = omega arith
 
-slice-aggregate-run-on : tie.Need-slice-aggregate-run-on
-unfolding outputSize
-slice-aggregate-run-on c = let s = c.before.before.before.before.before in sym (length-take-le outputSize s.args.out.now (omega (arith, s.requires)))
+slice_aggregate_run_on : tie.Need-slice-aggregate-run-on
+unfolding output_size
+slice_aggregate_run_on c = let s = c.before.before.before.before.before in sym (length-take-le output_size s.args.out.now (omega (arith, s.requires)))
 
-close-requires : tie.Need-close-requires
-unfolding outputSize
-close-requires c κs =
+close_requires : tie.Need-close-requires
+unfolding output_size
+close_requires c κs =
     let j = c.before.before.before.before.before.before in
     let s = j.before.before.before.before.before.before in
-    whole-fits _ _ s.args.out.now s.requires j.run_on.ensures
+    whole_fits _ _ s.args.out.now s.requires j.run_on.ensures
 
 returns : tie.Need-returns
-unfolding outputSize
+unfolding output_size
 returns c =
     let k = c.before.before in
     let j = k.before.before.before.before.before.before.before in
     let s = j.before.before.before.before.before.before in
-    whole-answers _ _ s.args.out.now s.requires j.run_on.ensures k.close.ensures
+    whole_answers _ _ s.args.out.now s.requires j.run_on.ensures k.close.ensures
 
-pub answer-on-spec : {M : Type 1} → statement M
-answer-on-spec =
+pub answer_on_spec : {M : Type 1} → statement M
+answer_on_spec =
     tie.close
     (tie.spec
-    slice-relend-prefix-run-on
-    slice-aggregate-run-on
+    slice_relend_prefix_run_on
+    slice_aggregate_run_on
     (λ c κs. search rules)
     (λ c. search rules)
-    close-requires
+    close_requires
     (λ c. search rules)
     (λ c. search rules)
     returns)

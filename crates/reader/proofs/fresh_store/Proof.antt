@@ -3,17 +3,17 @@ use mathlib.Core.Path.{◌∙◌}
 use Prim.Native.Nat.{ℕ}
 use lib.ListN.{length-replicate}
 use borrow.Author.Rules.{rules}
-use Rattle.model.specs.Shape.{entries, cardWidth}
-use Rattle.model.specs.Layout.{cardsAt, faultsAt, lengthFor}
-use Rattle.model.specs.Calls.{shapeFor}
-use Rattle.reader.specs.Depot.{depotShape}
-use Rattle.reader.proofs.Opening.{opens-fresh}
+use Rattle.model.specs.Shape.{entries, card_width}
+use Rattle.model.specs.Layout.{cards_at, faults_at, length_for}
+use Rattle.model.specs.Calls.{shape_for}
+use Rattle.reader.specs.Depot.{depot_shape}
+use Rattle.reader.proofs.Opening.{opens_fresh}
 use Rattle.reader.proofs.fresh_store.Statement.{statement}
 use Rattle.reader.proofs.fresh_store.Tie as tie
 
 returns : tie.Need-returns
-unfolding lengthFor faultsAt cardsAt cardWidth entries shapeFor
-returns c = c.before.«open».ensures.words_are ∙ opens-fresh _ (length-replicate {A = ℕ} (lengthFor depotShape) 0)
+unfolding length_for faults_at cards_at card_width entries shape_for
+returns c = c.before.«open».ensures.words_are ∙ opens_fresh _ (length-replicate {A = ℕ} (length_for depot_shape) 0)
 
-pub fresh-store-spec : {M : Type 1} → statement M
-fresh-store-spec = tie.close (tie.spec (λ c. search rules) (λ c κs. search rules) returns)
+pub fresh_store_spec : {M : Type 1} → statement M
+fresh_store_spec = tie.close (tie.spec (λ c. search rules) (λ c κs. search rules) returns)

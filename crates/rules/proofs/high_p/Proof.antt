@@ -1,16 +1,16 @@
 -- `rules::high_p` meets its contract: the code tests what the definition tests.
 use Rattle.std.proofs.Common.{rules, eq-eqb, ne_eqb}
-use Rattle.rules.specs.Table.{highP}
+use Rattle.rules.specs.Table.{high_p}
 use Rattle.rules.proofs.high_p.Statement.{statement}
 use Rattle.rules.proofs.high_p.Tie as tie
 
 returns : tie.Need-returns
-unfolding highP
+unfolding high_p
 returns c = rw (eq-eqb _ _ c.if1.true)
 
-returns-2 : tie.Need-returns-2
-unfolding highP
-returns-2 c = rw (ne_eqb _ _ c.if1.false)
+returns_2 : tie.Need-returns-2
+unfolding high_p
+returns_2 c = rw (ne_eqb _ _ c.if1.false)
 
-pub high-p-spec : {M : Type 1} → statement M
-high-p-spec = tie.close (tie.spec (λ c. search rules) (λ c. search rules) returns returns-2)
+pub high_p_spec : {M : Type 1} → statement M
+high_p_spec = tie.close (tie.spec (λ c. search rules) (λ c. search rules) returns returns_2)

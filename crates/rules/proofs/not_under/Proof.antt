@@ -1,15 +1,15 @@
 -- `rules::not_under` meets its contract: the second test is made where the first fails, and it compares 64-bit numbers.
 use Rattle.std.proofs.Common.{arith, eq-eqb, ne_eqb}
-use Rattle.rules.proofs.Loads.{product-fits}
+use Rattle.rules.proofs.Loads.{product_fits}
 use Rattle.rules.proofs.not_under.Statement.{statement}
 use Rattle.rules.proofs.not_under.Tie as tie
 
 returns : tie.Need-returns
 returns c = simp (eq-eqb _ _ c.if1.true)
 
-returns-2 : tie.Need-returns-2
-returns-2 c = simp (ne_eqb _ _ c.if1.false)
+returns_2 : tie.Need-returns-2
+returns_2 c = simp (ne_eqb _ _ c.if1.false)
 
-pub not-under-spec : {M : Type 1} → statement M
-not-under-spec =
-    tie.close (tie.spec (λ c. omega (arith, product-fits c.before.args.lower c.before.args.b (omega (arith, c.before.well-formed)) (omega (arith, c.before.well-formed)))) returns returns-2)
+pub not_under_spec : {M : Type 1} → statement M
+not_under_spec =
+    tie.close (tie.spec (λ c. omega (arith, product_fits c.before.args.lower c.before.args.b (omega (arith, c.before.well-formed)) (omega (arith, c.before.well-formed)))) returns returns_2)

@@ -5,24 +5,24 @@ use Rattle.rules.specs.Code.{code_of}
 use Rattle.rules.proofs.serial_code.Statement.{statement}
 use Rattle.rules.proofs.serial_code.Tie as tie
 
-slice-aggregate-reader-code : tie.Need-slice-aggregate-reader-code
-slice-aggregate-reader-code c =
+slice_aggregate_reader_code : tie.Need-slice-aggregate-reader-code
+slice_aggregate_reader_code c =
     let a = c.before.before.args in
     sym (length-take-le a.len a.t1 (omega arith))
 
-returns-2 : tie.Need-returns-2
-returns-2 c =
+returns_2 : tie.Need-returns-2
+returns_2 c =
     let a = c.before.before.before.args in
     c.reader-code2.ensures ∙ ap code_of (sym (take_all a.len a.t1 (omega arith)))
 
-pub serial-code-spec : {M : Type 1} → statement M
-serial-code-spec =
+pub serial_code_spec : {M : Type 1} → statement M
+serial_code_spec =
     tie.close
     (tie.spec
     (λ c. search rules)
-    slice-aggregate-reader-code
+    slice_aggregate_reader_code
     (λ c κs. tt)
     (λ c. search rules)
     (λ c κs. tt)
     (λ c. c.reader-code.ensures)
-    returns-2)
+    returns_2)

@@ -7,7 +7,7 @@ use borrow.Author.Tests.{not-true, not-false}
 use lib.ListN.{length}
 use Rattle.model.specs.Shape.{need}
 use Rattle.model.specs.Layout.{shape_of}
-use Rattle.store.proofs.CallLaws.{admit-short, admit-unsound, admit-sound}
+use Rattle.store.proofs.CallLaws.{admit_short, admit_unsound, admit_sound}
 use Rattle.store.proofs.admit.Statement.{statement}
 use Rattle.store.proofs.admit.Tie as tie
 
@@ -21,22 +21,22 @@ enough : (c : tie.Else1) → need (shape_of (start c.before).args.words.now) ≤
 enough c = omega (arith, c.if1.false, c.before.need.ensures)
 
 returns : tie.Need-returns
-returns c = admit-short _ _ (short c)
+returns c = admit_short _ _ (short c)
 
-check-requires : tie.Need-check-requires
-check-requires c κs = enough c.before
+check_requires : tie.Need-check-requires
+check_requires c κs = enough c.before
 
-returns-2 : tie.Need-returns-2
-returns-2 c =
+returns_2 : tie.Need-returns-2
+returns_2 c =
     let k = c.before.before.before in
-    admit-unsound _ _ (enough k.before.before) k.check.ensures.1 (sym k.check.ensures.0 ∙ not-true k.check.result c.if2.true)
+    admit_unsound _ _ (enough k.before.before) k.check.ensures.1 (sym k.check.ensures.0 ∙ not-true k.check.result c.if2.true)
 
-returns-3 : tie.Need-returns-3
-returns-3 c =
+returns_3 : tie.Need-returns-3
+returns_3 c =
     let k = c.before.before.before in
-    admit-sound _ _ (enough k.before.before) k.check.ensures.1 (sym k.check.ensures.0 ∙ not-false k.check.result c.if2.false)
+    admit_sound _ _ (enough k.before.before) k.check.ensures.1 (sym k.check.ensures.0 ∙ not-false k.check.result c.if2.false)
 
-pub admit-spec : {M : Type 1} → statement M
-admit-spec =
+pub admit_spec : {M : Type 1} → statement M
+admit_spec =
     tie.close
-    (tie.spec (λ c κs. tt) returns check-requires (λ c. search rules) returns-2 (λ c. search rules) returns-3)
+    (tie.spec (λ c κs. tt) returns check_requires (λ c. search rules) returns_2 (λ c. search rules) returns_3)

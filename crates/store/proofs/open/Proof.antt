@@ -1,4 +1,4 @@
--- `open` meets its contract: the three tests of `openCall` in its order, and the words of a fresh store where all pass.
+-- `open` meets its contract: the three tests of `open_call` in its order, and the words of a fresh store where all pass.
 use mathlib.Core.Path.{◌≡◌, refl, sym, ap, ◌∙◌}
 use mathlib.Core.Bool.{true, false}
 use borrow.Author.Rules.{rules}
@@ -7,9 +7,9 @@ use lib.Dec.{eqb}
 use lib.ListN.{length}
 use Rattle.model.specs.Shape.{Shape}
 use Rattle.model.specs.Model.{fresh}
-use Rattle.model.specs.Layout.{limitsOk, boundsOk, lengthFor, shapeOk, encode}
-use Rattle.model.specs.Calls.{Terms, shapeFor, openCall, asked}
-use Rattle.model.proofs.Outcomes.{terms-ok}
+use Rattle.model.specs.Layout.{limits_ok, bounds_ok, length_for, shape_ok, encode}
+use Rattle.model.specs.Calls.{Terms, shape_for, open_call, asked}
+use Rattle.model.proofs.Outcomes.{terms_ok}
 use Rattle.store.proofs.open.Statement.{statement}
 use Rattle.store.proofs.open.Tie as tie
 
@@ -17,60 +17,60 @@ use Rattle.store.proofs.open.Tie as tie
 abbrev terms : tie.After-shape-for → Terms
 terms c = let a = c.before.before.args in asked a.cards a.faults a.upper a.lower
 
-limits-tested : (c : tie.After-limits-ok) → c.limits-ok.result ≡ limitsOk (shapeFor (terms c.before))
-limits-tested c = c.limits-ok.ensures ∙ ap limitsOk c.before.shape-for.ensures
+limits_tested : (c : tie.After-limits-ok) → c.limits-ok.result ≡ limits_ok (shape_for (terms c.before))
+limits_tested c = c.limits-ok.ensures ∙ ap limits_ok c.before.shape-for.ensures
 
-bounds-tested : (c : tie.After-bounds-ok) → c.bounds_ok.result ≡ boundsOk (shapeFor (terms c.before.before.before))
-bounds-tested c = c.bounds_ok.ensures ∙ ap boundsOk c.before.before.before.shape-for.ensures
+bounds_tested : (c : tie.After-bounds-ok) → c.bounds_ok.result ≡ bounds_ok (shape_for (terms c.before.before.before))
+bounds_tested c = c.bounds_ok.ensures ∙ ap bounds_ok c.before.before.before.shape-for.ensures
 
 returns : tie.Need-returns
-unfolding openCall
+unfolding open_call
 returns c =
-    let e : limitsOk (shapeFor (terms c.before.before)) ≡ false = sym (limits-tested c.before) ∙ not-true c.before.limits-ok.result c.if1.true in
+    let e : limits_ok (shape_for (terms c.before.before)) ≡ false = sym (limits_tested c.before) ∙ not-true c.before.limits-ok.result c.if1.true in
     rw e (record { number_is = refl; words_are = refl })
 
 -- past the first test the limits are right, past the second the bounds
-limits : (c : tie.Else1) → limitsOk (shapeFor (terms c.before.before)) ≡ true
-limits c = sym (limits-tested c.before) ∙ not-false c.before.limits-ok.result c.if1.false
+limits : (c : tie.Else1) → limits_ok (shape_for (terms c.before.before)) ≡ true
+limits c = sym (limits_tested c.before) ∙ not-false c.before.limits-ok.result c.if1.false
 
-returns-2 : tie.Need-returns-2
-unfolding openCall
-returns-2 c =
-    let e : boundsOk (shapeFor (terms c.before.before.before.before)) ≡ false = sym (bounds-tested c.before) ∙ not-true c.before.bounds_ok.result c.if2.true in
+returns_2 : tie.Need-returns-2
+unfolding open_call
+returns_2 c =
+    let e : bounds_ok (shape_for (terms c.before.before.before.before)) ≡ false = sym (bounds_tested c.before) ∙ not-true c.before.bounds_ok.result c.if2.true in
     rw (limits c.before.before, e) (record { number_is = refl; words_are = refl })
 
-bounds : (c : tie.Else2) → boundsOk (shapeFor (terms c.before.before.before.before)) ≡ true
-bounds c = sym (bounds-tested c.before) ∙ not-false c.before.bounds_ok.result c.if2.false
+bounds : (c : tie.Else2) → bounds_ok (shape_for (terms c.before.before.before.before)) ≡ true
+bounds c = sym (bounds_tested c.before) ∙ not-false c.before.bounds_ok.result c.if2.false
 
 -- the length that is asked for
 abbrev made : tie.After-length-for → tie.After-shape-for
 made c = c.before.before.before.before.before
 
-length-is : (c : tie.After-length-for) → c.length-for.result ≡ lengthFor (shapeFor (terms (made c)))
-length-is c = c.length-for.ensures ∙ ap lengthFor (made c).shape-for.ensures
+length_is : (c : tie.After-length-for) → c.length-for.result ≡ length_for (shape_for (terms (made c)))
+length_is c = c.length-for.ensures ∙ ap length_for (made c).shape-for.ensures
 
-returns-3 : tie.Need-returns-3
-unfolding openCall
-returns-3 c =
+returns_3 : tie.Need-returns-3
+unfolding open_call
+returns_3 c =
     let s = made c.before in
     let two = c.before.before in
-    let e : eqb (length s.before.before.args.words.now) (lengthFor (shapeFor (terms s))) ≡ false = ne_eqb _ _ (λ e. c.if3.true (e ∙ sym (length-is c.before))) in
+    let e : eqb (length s.before.before.args.words.now) (length_for (shape_for (terms s))) ≡ false = ne_eqb _ _ (λ e. c.if3.true (e ∙ sym (length_is c.before))) in
     rw (limits two.before.before, bounds two, e) (record { number_is = refl; words_are = refl })
 
 -- and past the third the length is
-long : (c : tie.Else3) → let s = made c.before in length s.before.before.args.words.now ≡ lengthFor (shapeFor (terms s))
-long c = c.if3.false ∙ length-is c.before
+long : (c : tie.Else3) → let s = made c.before in length s.before.before.args.words.now ≡ length_for (shape_for (terms s))
+long c = c.if3.false ∙ length_is c.before
 
-fill-requires : tie.Need-fill-requires
-fill-requires c κs =
+fill_requires : tie.Need-fill-requires
+fill_requires c κs =
     let t = c.before in
     let s = made t.before in
     let two = t.before.before in
-    (ap shapeOk s.shape-for.ensures ∙ terms-ok _ (limits two.before.before) (bounds two), long t ∙ sym (ap lengthFor s.shape-for.ensures))
+    (ap shape_ok s.shape-for.ensures ∙ terms_ok _ (limits two.before.before) (bounds two), long t ∙ sym (ap length_for s.shape-for.ensures))
 
-returns-4 : tie.Need-returns-4
-unfolding openCall
-returns-4 c =
+returns_4 : tie.Need-returns-4
+unfolding open_call
+returns_4 c =
     let t = c.before.before.before.before in
     let s = made t.before in
     let two = t.before.before in
@@ -80,4 +80,4 @@ returns-4 c =
 pub open_spec : {M : Type 1} → statement M
 open_spec =
     tie.close
-    (tie.spec (λ c κs. tt) (λ c κs. tt) returns (λ c κs. tt) returns-2 (λ c κs. tt) returns-3 fill-requires (λ c. search rules) returns-4)
+    (tie.spec (λ c κs. tt) (λ c κs. tt) returns (λ c κs. tt) returns_2 (λ c κs. tt) returns_3 fill_requires (λ c. search rules) returns_4)

@@ -1,30 +1,30 @@
 -- `show` meets its contract: what the one door turns away is refused by its number, and on sound words the call is that on a store known to be sound.
 use borrow.Author.Rules.{rules}
-use Rattle.store.proofs.CallLaws.{sound-words, call-refused, call-does}
+use Rattle.store.proofs.CallLaws.{sound_words, call_refused, call_does}
 use Rattle.store.proofs.show.Statement.{statement}
 use Rattle.store.proofs.show.Tie as tie
 
 returns : tie.Need-returns
-returns c = call-refused _ _ c.before.before.before.before.admit.ensures _ _ c.before.if1.true c.refuse.ensures
+returns c = call_refused _ _ c.before.before.before.before.admit.ensures _ _ c.before.if1.true c.refuse.ensures
 
-show-in-requires : tie.Need-show-in-requires
-show-in-requires c κs = let e = c.before in sound-words _ _ e.before.before.before.admit.ensures e.if1.false
+show_in_requires : tie.Need-show-in-requires
+show_in_requires c κs = let e = c.before in sound_words _ _ e.before.before.before.admit.ensures e.if1.false
 
-returns-2 : tie.Need-returns-2
-returns-2 c =
+returns_2 : tie.Need-returns-2
+returns_2 c =
     let f = c.before.before in
     let e = f.before.before in
-    call-does _ _ e.before.before.before.admit.ensures _ _ e.if1.false f.show-in.ensures
+    call_does _ _ e.before.before.before.admit.ensures _ _ e.if1.false f.show-in.ensures
 
-pub show-spec : {M : Type 1} → statement M
-show-spec =
+pub show_spec : {M : Type 1} → statement M
+show_spec =
     tie.close
     (tie.spec
     (λ c κs. tt)
     (λ c κs. tt)
     (λ c. search rules)
     returns
-    show-in-requires
+    show_in_requires
     (λ c. search rules)
     (λ c. search rules)
-    returns-2)
+    returns_2)

@@ -1,23 +1,23 @@
 -- `withdraw` meets its contract: what the one door turns away is refused by its number, and on sound words the call is that on a store known to be sound.
 use borrow.Author.Rules.{rules}
-use Rattle.store.proofs.CallLaws.{sound-words, call-refused, call-does}
+use Rattle.store.proofs.CallLaws.{sound_words, call_refused, call_does}
 use Rattle.store.proofs.withdraw.Statement.{statement}
 use Rattle.store.proofs.withdraw.Tie as tie
 
 returns : tie.Need-returns
-returns c = call-refused _ _ c.before.before.before.before.admit.ensures _ _ c.before.if1.true c.refuse.ensures
+returns c = call_refused _ _ c.before.before.before.before.admit.ensures _ _ c.before.if1.true c.refuse.ensures
 
-withdraw-in-requires : tie.Need-withdraw-in-requires
-withdraw-in-requires c κs = let e = c.before.before in sound-words _ _ e.before.before.before.admit.ensures e.if1.false
+withdraw_in_requires : tie.Need-withdraw-in-requires
+withdraw_in_requires c κs = let e = c.before.before in sound_words _ _ e.before.before.before.admit.ensures e.if1.false
 
-returns-2 : tie.Need-returns-2
-returns-2 c =
+returns_2 : tie.Need-returns-2
+returns_2 c =
     let f = c.before.before.before.before in
     let e = f.before.before.before in
-    call-does _ _ e.before.before.before.admit.ensures _ _ e.if1.false f.withdraw-in.ensures
+    call_does _ _ e.before.before.before.admit.ensures _ _ e.if1.false f.withdraw-in.ensures
 
-pub withdraw-spec : {M : Type 1} → statement M
-withdraw-spec =
+pub withdraw_spec : {M : Type 1} → statement M
+withdraw_spec =
     tie.close
     (tie.spec
     (λ c κs. tt)
@@ -25,8 +25,8 @@ withdraw-spec =
     (λ c. search rules)
     (λ c. search rules)
     returns
-    withdraw-in-requires
+    withdraw_in_requires
     (λ c. search rules)
     (λ c. search rules)
     (λ c. search rules)
-    returns-2)
+    returns_2)

@@ -3,18 +3,18 @@ use Rattle.std.proofs.Common.{◌≡◌, ◌-◌, length, refl, ◌∙◌, arith
 use Rattle.store_soundness.proofs.damage_all.Statement.{statement}
 use Rattle.store_soundness.proofs.damage_all.Tie as tie
 
-abbrev invariant-loop : tie.invariant-loop
-invariant-loop words₀ from to at₀ words at = length words ≡ length words₀
+abbrev invariant_loop : tie.invariant-loop
+invariant_loop words₀ from to at₀ words at = length words ≡ length words₀
 
-abbrev decreases-loop : tie.decreases-loop
-decreases-loop words₀ from to at₀ words at = to - at
+abbrev decreases_loop : tie.decreases-loop
+decreases_loop words₀ from to at₀ words at = to - at
 
-pub damage-all-spec : {M : Type 1} → statement M
-damage-all-spec =
+pub damage_all_spec : {M : Type 1} → statement M
+damage_all_spec =
     tie.close
     (tie.spec
-    invariant-loop
-    decreases-loop
+    invariant_loop
+    decreases_loop
     (λ c. refl)
     (λ c κs. omega arith)
     (λ c. omega arith)

@@ -3,18 +3,18 @@ use Rattle.std.proofs.Common.{◌≡◌, ◌-◌, length, refl, ◌∙◌, arith
 use Rattle.store_soundness.proofs.judge_bounds.Statement.{statement}
 use Rattle.store_soundness.proofs.judge_bounds.Tie as tie
 
-abbrev invariant-loop : tie.invariant-loop
-invariant-loop words₀ upper₀ words upper = length words ≡ length words₀
+abbrev invariant_loop : tie.invariant-loop
+invariant_loop words₀ upper₀ words upper = length words ≡ length words₀
 
-abbrev decreases-loop : tie.decreases-loop
-decreases-loop words₀ upper₀ words upper = 12 - upper
+abbrev decreases_loop : tie.decreases-loop
+decreases_loop words₀ upper₀ words upper = 12 - upper
 
-pub judge-bounds-spec : {M : Type 1} → statement M
-judge-bounds-spec =
+pub judge_bounds_spec : {M : Type 1} → statement M
+judge_bounds_spec =
     tie.close
     (tie.spec
-    invariant-loop
-    decreases-loop
+    invariant_loop
+    decreases_loop
     (λ c. refl)
     (λ c κs. omega arith)
     (λ c. omega arith)

@@ -3,18 +3,18 @@ use Rattle.std.proofs.Common.{◌≡◌, ◌-◌, length, refl, ◌∙◌, arith
 use Rattle.store_soundness.proofs.judge_low.Statement.{statement}
 use Rattle.store_soundness.proofs.judge_low.Tie as tie
 
-abbrev invariant-loop : tie.invariant-loop
-invariant-loop words₀ at value₀ words value = length words ≡ length words₀
+abbrev invariant_loop : tie.invariant-loop
+invariant_loop words₀ at value₀ words value = length words ≡ length words₀
 
-abbrev decreases-loop : tie.decreases-loop
-decreases-loop words₀ at value₀ words value = 7 - value
+abbrev decreases_loop : tie.decreases-loop
+decreases_loop words₀ at value₀ words value = 7 - value
 
-pub judge-low-spec : {M : Type 1} → statement M
-judge-low-spec =
+pub judge_low_spec : {M : Type 1} → statement M
+judge_low_spec =
     tie.close
     (tie.spec
-    invariant-loop
-    decreases-loop
+    invariant_loop
+    decreases_loop
     (λ c. refl)
     (λ c κs. omega arith)
     (λ c. omega arith)

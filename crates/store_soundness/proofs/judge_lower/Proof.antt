@@ -3,18 +3,18 @@ use Rattle.std.proofs.Common.{◌≡◌, ◌-◌, length, refl, ◌∙◌, arith
 use Rattle.store_soundness.proofs.judge_lower.Statement.{statement}
 use Rattle.store_soundness.proofs.judge_lower.Tie as tie
 
-abbrev invariant-loop : tie.invariant-loop
-invariant-loop words₀ upper lower₀ words lower = length words ≡ length words₀
+abbrev invariant_loop : tie.invariant-loop
+invariant_loop words₀ upper lower₀ words lower = length words ≡ length words₀
 
-abbrev decreases-loop : tie.decreases-loop
-decreases-loop words₀ upper lower₀ words lower = 7 - lower
+abbrev decreases_loop : tie.decreases-loop
+decreases_loop words₀ upper lower₀ words lower = 7 - lower
 
-pub judge-lower-spec : {M : Type 1} → statement M
-judge-lower-spec =
+pub judge_lower_spec : {M : Type 1} → statement M
+judge_lower_spec =
     tie.close
     (tie.spec
-    invariant-loop
-    decreases-loop
+    invariant_loop
+    decreases_loop
     (λ c. refl)
     (λ c. omega arith)
     (λ c. omega arith)

@@ -3,18 +3,18 @@ use Rattle.std.proofs.Common.{◌≡◌, ◌-◌, length, refl, ◌∙◌, arith
 use Rattle.store_soundness.proofs.put_buckets.Statement.{statement}
 use Rattle.store_soundness.proofs.put_buckets.Tie as tie
 
-abbrev invariant-loop : tie.invariant-loop
-invariant-loop words₀ bucket₀ words bucket = length words ≡ length words₀
+abbrev invariant_loop : tie.invariant-loop
+invariant_loop words₀ bucket₀ words bucket = length words ≡ length words₀
 
-abbrev decreases-loop : tie.decreases-loop
-decreases-loop words₀ bucket₀ words bucket = 17 - bucket
+abbrev decreases_loop : tie.decreases-loop
+decreases_loop words₀ bucket₀ words bucket = 17 - bucket
 
-pub put-buckets-spec : {M : Type 1} → statement M
-put-buckets-spec =
+pub put_buckets_spec : {M : Type 1} → statement M
+put_buckets_spec =
     tie.close
     (tie.spec
-    invariant-loop
-    decreases-loop
+    invariant_loop
+    decreases_loop
     (λ c. refl)
     (λ c. omega arith)
     (λ c. omega arith)

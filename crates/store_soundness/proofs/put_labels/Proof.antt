@@ -3,18 +3,18 @@ use Rattle.std.proofs.Common.{◌≡◌, ◌-◌, ◌≤◌, length, refl, ◌�
 use Rattle.store_soundness.proofs.put_labels.Statement.{statement}
 use Rattle.store_soundness.proofs.put_labels.Tie as tie
 
-abbrev invariant-loop : tie.invariant-loop
-invariant-loop words₀ cell₀ words cell = (1 ≤ cell) × (length words ≡ length words₀)
+abbrev invariant_loop : tie.invariant-loop
+invariant_loop words₀ cell₀ words cell = (1 ≤ cell) × (length words ≡ length words₀)
 
-abbrev decreases-loop : tie.decreases-loop
-decreases-loop words₀ cell₀ words cell = 35 - cell
+abbrev decreases_loop : tie.decreases-loop
+decreases_loop words₀ cell₀ words cell = 35 - cell
 
-pub put-labels-spec : {M : Type 1} → statement M
-put-labels-spec =
+pub put_labels_spec : {M : Type 1} → statement M
+put_labels_spec =
     tie.close
     (tie.spec
-    invariant-loop
-    decreases-loop
+    invariant_loop
+    decreases_loop
     (λ c. (omega arith, refl))
     (λ c κs. omega arith)
     (λ c. omega arith)

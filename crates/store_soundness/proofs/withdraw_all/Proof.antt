@@ -3,18 +3,18 @@ use Rattle.std.proofs.Common.{◌≡◌, ◌-◌, length, refl, ◌∙◌, arith
 use Rattle.store_soundness.proofs.withdraw_all.Statement.{statement}
 use Rattle.store_soundness.proofs.withdraw_all.Tie as tie
 
-abbrev invariant-loop : tie.invariant-loop
-invariant-loop words₀ count k₀ words k = length words ≡ length words₀
+abbrev invariant_loop : tie.invariant-loop
+invariant_loop words₀ count k₀ words k = length words ≡ length words₀
 
-abbrev decreases-loop : tie.decreases-loop
-decreases-loop words₀ count k₀ words k = count - k
+abbrev decreases_loop : tie.decreases-loop
+decreases_loop words₀ count k₀ words k = count - k
 
-pub withdraw-all-spec : {M : Type 1} → statement M
-withdraw-all-spec =
+pub withdraw_all_spec : {M : Type 1} → statement M
+withdraw_all_spec =
     tie.close
     (tie.spec
-    invariant-loop
-    decreases-loop
+    invariant_loop
+    decreases_loop
     (λ c. refl)
     (λ c κs. tt)
     (λ c. omega arith)

@@ -7,13 +7,13 @@ returns : tie.Need-returns
 unfolding width_of
 returns c = rw c.if1.true
 
-returns-2 : tie.Need-returns-2
+returns_2 : tie.Need-returns-2
 unfolding width_of
-returns-2 c = rw c.if1.false c.before.requires
+returns_2 c = rw c.if1.false c.before.requires
 
-pub width-of-spec : {M : Type 1} → statement M
-width-of-spec =
+pub width_of_spec : {M : Type 1} → statement M
+width_of_spec =
     tie.close
     (tie.spec
     returns
-    returns-2)
+    returns_2)

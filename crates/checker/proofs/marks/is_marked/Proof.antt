@@ -4,17 +4,17 @@ use Rattle.checker.proofs.MarkLaws.{test}
 use Rattle.checker.proofs.marks.is_marked.Statement.{statement}
 use Rattle.checker.proofs.marks.is_marked.Tie as tie
 
-cast-mask : tie.Need-overflow-cast-mask
-cast-mask c = search rules
+cast_mask : tie.Need-overflow-cast-mask
+cast_mask c = search rules
 
-shl-mask : tie.Need-overflow-shl-mask
-shl-mask c = search rules
+shl_mask : tie.Need-overflow-shl-mask
+shl_mask c = search rules
 
-shared-slice-read-result : tie.Need-shared-slice-read-result
-shared-slice-read-result c = search rules
+shared_slice_read_result : tie.Need-shared-slice-read-result
+shared_slice_read_result c = search rules
 
 returns : tie.Need-returns
 returns c = test _ _
 
-pub is-marked-spec : {M : Type 1} → statement M
-is-marked-spec = tie.close (tie.spec cast-mask shl-mask shared-slice-read-result returns)
+pub is_marked_spec : {M : Type 1} → statement M
+is_marked_spec = tie.close (tie.spec cast_mask shl_mask shared_slice_read_result returns)

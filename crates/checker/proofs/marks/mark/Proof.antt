@@ -2,31 +2,31 @@
 use Prim.Native.Nat.{◌%◌}
 use native.Mathlib.Omega.{arith}
 use borrow.Author.Rules.{rules}
-use Rattle.checker.specs.Marks.{markedAt}
+use Rattle.checker.specs.Marks.{marked_at}
 use Rattle.checker.proofs.MarkLaws.{mask}
 use Rattle.checker.proofs.marks.mark.Statement.{statement}
 use Rattle.checker.proofs.marks.mark.Tie as tie
 
-cast-mask : tie.Need-overflow-cast-mask
-cast-mask c = search rules
+cast_mask : tie.Need-overflow-cast-mask
+cast_mask c = search rules
 
-shl-mask : tie.Need-overflow-shl-mask
-shl-mask c = search rules
+shl_mask : tie.Need-overflow-shl-mask
+shl_mask c = search rules
 
-slice-read-scratch : tie.Need-slice-read-scratch
-slice-read-scratch c = search rules
+slice_read_scratch : tie.Need-slice-read-scratch
+slice_read_scratch c = search rules
 
-slice-write-scratch : tie.Need-slice-write-scratch
-slice-write-scratch c = search rules
+slice_write_scratch : tie.Need-slice-write-scratch
+slice_write_scratch c = search rules
 
 same_length : tie.Need-same-length
 same_length c = search rules
 
 returns : tie.Need-returns
-unfolding markedAt
+unfolding marked_at
 returns c = rw (mask (c.before.args.k % 8) (omega arith))
 
 pub mark_spec : {M : Type 1} → statement M
 mark_spec =
     tie.close
-    (tie.spec cast-mask shl-mask slice-read-scratch slice-write-scratch same_length returns)
+    (tie.spec cast_mask shl_mask slice_read_scratch slice_write_scratch same_length returns)

@@ -6,14 +6,14 @@ use Rattle.checker.proofs.parts.free_word.Tie as tie
 returns : tie.Need-returns
 returns c = rw c.before.if1.true c.word.ensures
 
-returns-2 : tie.Need-returns-2
-returns-2 c = rw c.before.if1.false c.word2.ensures
+returns_2 : tie.Need-returns-2
+returns_2 c = rw c.before.if1.false c.word2.ensures
 
-pub free-word-spec : {M : Type 1} → statement M
-free-word-spec =
+pub free_word_spec : {M : Type 1} → statement M
+free_word_spec =
     tie.close
     (tie.spec
     (λ c κs. search rules)
     (λ c κs. search rules)
     returns
-    returns-2)
+    returns_2)

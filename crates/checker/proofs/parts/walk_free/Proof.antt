@@ -6,8 +6,8 @@ use Rattle.checker.proofs.parts.walk_free.Tie as tie
 returns : tie.Need-returns
 returns c = rw (← c.before.before.before.before.free-word.ensures) c.before.before.walk.ensures
 
-pub walk-free-spec : {M : Type 1} → statement M
-walk-free-spec =
+pub walk_free_spec : {M : Type 1} → statement M
+walk_free_spec =
     tie.close
     (tie.spec
     (λ c κs. search rules)

@@ -3,30 +3,30 @@ use Prim.Native.Nat.{◌-◌, ◌≤◌}
 use mathlib.Core.Path.{◌≡◌, refl}
 use native.Mathlib.Omega.{arith}
 use lib.ListN.{length, length-set}
-use Rattle.disk.proofs.Lengths.{most-words}
+use Rattle.disk.proofs.Lengths.{most_words_lem}
 use Rattle.desk.proofs.shows.gather.Statement.{statement}
 use Rattle.desk.proofs.shows.gather.Tie as tie
 
-abbrev invariant-loop : tie.invariant-loop
-invariant-loop room₀ sizes₀ i₀ at₀ room sizes i at = (at ≤ length room) × (i ≤ length sizes) × (length room ≡ length room₀) × (length sizes ≡ length sizes₀)
+abbrev invariant_loop : tie.invariant-loop
+invariant_loop room₀ sizes₀ i₀ at₀ room sizes i at = (at ≤ length room) × (i ≤ length sizes) × (length room ≡ length room₀) × (length sizes ≡ length sizes₀)
 
-abbrev decreases-loop : tie.decreases-loop
-decreases-loop room₀ sizes₀ i₀ at₀ room sizes i at = length sizes - i
+abbrev decreases_loop : tie.decreases-loop
+decreases_loop room₀ sizes₀ i₀ at₀ room sizes i at = length sizes - i
 
-loop-holds : tie.Need-loop-init invariant-loop decreases-loop
-loop-holds c = (omega arith, omega arith, refl, refl)
+loop_holds : tie.Need-loop-init invariant_loop decreases_loop
+loop_holds c = (omega arith, omega arith, refl, refl)
 
-add-file-requires : tie.Need-add-file-requires invariant-loop decreases-loop
-add-file-requires c κs = tt
+add_file_requires : tie.Need-add-file-requires invariant_loop decreases_loop
+add_file_requires c κs = tt
 
-cast-sizes : tie.Need-overflow-cast-sizes invariant-loop decreases-loop
-cast-sizes c = omega (arith, most-words, c.before.before.before.before.before.add-file.ensures.1)
+cast_sizes : tie.Need-overflow-cast-sizes invariant_loop decreases_loop
+cast_sizes c = omega (arith, most_words_lem, c.before.before.before.before.before.add-file.ensures.1)
 
-loop-less : tie.Need-loop-smaller invariant-loop decreases-loop
-loop-less c = let j = c.before.before.before.before.before.before.before.before.before.loop in omega (arith, length-set j.sizes j.i c.before.before.before.before.before.before.add-file.result.len)
+loop_less : tie.Need-loop-smaller invariant_loop decreases_loop
+loop_less c = let j = c.before.before.before.before.before.before.before.before.before.loop in omega (arith, length-set j.sizes j.i c.before.before.before.before.before.before.add-file.result.len)
 
-loop-again : tie.Need-loop-preserved invariant-loop decreases-loop
-loop-again c = let j = c.before.before.before.before.before.before.before.before.before.loop in let l = length-set j.sizes j.i c.before.before.before.before.before.before.add-file.result.len in (omega arith, omega arith, omega arith, omega arith)
+loop_again : tie.Need-loop-preserved invariant_loop decreases_loop
+loop_again c = let j = c.before.before.before.before.before.before.before.before.before.loop in let l = length-set j.sizes j.i c.before.before.before.before.before.before.add-file.result.len in (omega arith, omega arith, omega arith, omega arith)
 
-pub gather-spec : {M : Type 1} → statement M
-gather-spec = tie.close (tie.spec invariant-loop decreases-loop loop-holds (λ c. omega arith) (λ c. omega arith) (λ c. omega arith) (λ c. omega arith) add-file-requires (λ c. omega arith) (λ c. omega arith) (λ c. omega arith) cast-sizes (λ c. omega arith) (λ c. omega arith) (λ c. omega arith) (λ c. omega arith) loop-less loop-again (λ c. omega arith) (λ c. omega arith) (λ c. omega arith))
+pub gather_spec : {M : Type 1} → statement M
+gather_spec = tie.close (tie.spec invariant_loop decreases_loop loop_holds (λ c. omega arith) (λ c. omega arith) (λ c. omega arith) (λ c. omega arith) add_file_requires (λ c. omega arith) (λ c. omega arith) (λ c. omega arith) cast_sizes (λ c. omega arith) (λ c. omega arith) (λ c. omega arith) (λ c. omega arith) loop_less loop_again (λ c. omega arith) (λ c. omega arith) (λ c. omega arith))

@@ -5,8 +5,8 @@ use borrow.Author.Rules.{rules}
 use Rattle.desk.proofs.shows.show_last.Statement.{statement}
 use Rattle.desk.proofs.shows.show_last.Tie as tie
 
-answers-at-requires : tie.Need-answers-at-requires
-answers-at-requires c κs = let k = c.before.belongs in sym k.ensures ∙ not-false k.result c.if1.false
+answers_at_requires : tie.Need-answers-at-requires
+answers_at_requires c κs = let k = c.before.belongs in sym k.ensures ∙ not-false k.result c.if1.false
 
-pub show-last-spec : {M : Type 1} → statement M
-show-last-spec = tie.close (tie.spec (λ c κs. search rules) (λ c. search rules) (λ c κs. search rules) (λ c κs. search rules) (λ c. search rules) (λ c κs. search rules) (λ c κs. search rules) (λ c. search rules) (λ c κs. search rules) (λ c. search rules) answers-at-requires (λ c. search rules) (λ c. search rules) (λ c. search rules) (λ c κs. search rules) (λ c. search rules))
+pub show_last_spec : {M : Type 1} → statement M
+show_last_spec = tie.close (tie.spec (λ c κs. search rules) (λ c. search rules) (λ c κs. search rules) (λ c κs. search rules) (λ c. search rules) (λ c κs. search rules) (λ c κs. search rules) (λ c. search rules) (λ c κs. search rules) (λ c. search rules) answers_at_requires (λ c. search rules) (λ c. search rules) (λ c. search rules) (λ c κs. search rules) (λ c. search rules))

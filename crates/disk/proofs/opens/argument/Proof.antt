@@ -10,12 +10,12 @@ returns : tie.Need-returns
 unfolding argument
 returns c = let k = c.before.is-number in rw (sym k.ensures ∙ not-true k.result c.if1.true)
 
-number-requires : tie.Need-number-requires
-number-requires c κs = let k = c.before.is-number in sym k.ensures ∙ not-false k.result c.if1.false
+number_requires : tie.Need-number-requires
+number_requires c κs = let k = c.before.is-number in sym k.ensures ∙ not-false k.result c.if1.false
 
-returns-2 : tie.Need-returns-2
+returns_2 : tie.Need-returns-2
 unfolding argument
-returns-2 c = let k = c.before.before.is-number in rw (sym k.ensures ∙ not-false k.result c.before.if1.false) c.number.ensures
+returns_2 c = let k = c.before.before.is-number in rw (sym k.ensures ∙ not-false k.result c.before.if1.false) c.number.ensures
 
-pub argument-spec : {M : Type 1} → statement M
-argument-spec = tie.close (tie.spec (λ c κs. search rules) returns number-requires returns-2)
+pub argument_spec : {M : Type 1} → statement M
+argument_spec = tie.close (tie.spec (λ c κs. search rules) returns number_requires returns_2)

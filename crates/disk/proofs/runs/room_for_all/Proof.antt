@@ -2,13 +2,13 @@
 use Prim.Native.Nat.{ℕ, ◌*◌}
 use mathlib.Core.Path.{sym, ap, ◌∙◌}
 use lib.ListN.{length-replicate}
-use Rattle.model.specs.Report.{mostStores}
-use Rattle.disk.proofs.Lengths.{most-words}
+use Rattle.model.specs.Report.{most_stores}
+use Rattle.disk.proofs.Lengths.{most_words_lem}
 use Rattle.disk.proofs.runs.room_for_all.Statement.{statement}
 use Rattle.disk.proofs.runs.room_for_all.Tie as tie
 
 returns : tie.Need-returns
-returns c = ap (λ (n : ℕ). mostStores * n) most-words ∙ sym (length-replicate {A = ℕ} 125184 0)
+returns c = ap (λ (n : ℕ). most_stores * n) most_words_lem ∙ sym (length-replicate {A = ℕ} 125184 0)
 
-pub room-for-all-spec : {M : Type 1} → statement M
-room-for-all-spec = tie.close (tie.spec returns)
+pub room_for_all_spec : {M : Type 1} → statement M
+room_for_all_spec = tie.close (tie.spec returns)

@@ -6,8 +6,8 @@ use Rattle.disk.proofs.words.word_at.Tie as tie
 returns : tie.Need-returns
 returns c = c.join.ensures
 
-pub word-at-spec : {M : Type 1} → statement M
-word-at-spec =
+pub word_at_spec : {M : Type 1} → statement M
+word_at_spec =
     tie.close
     (tie.spec
     (λ c. search rules)

@@ -1,17 +1,17 @@
 -- `job::answers::answer_len` meets its contract: four numbers, three spaces and LF, and the pairs. Assumes nothing.
 use native.Mathlib.Omega.{arith}
 use borrow.Author.Rules.{rules}
-use Rattle.job.proofs.AnswerLaws.{answer-long}
+use Rattle.job.proofs.AnswerLaws.{answer_long}
 use Rattle.job.proofs.answers.answer_len.Statement.{statement}
 use Rattle.job.proofs.answers.answer_len.Tie as tie
 
 returns : tie.Need-returns
 returns c =
     let t = c.before.before.before.before.before.before.args in
-    record { is = omega (arith, answer-long t.number t.comparisons t.scanned t.faults t.count t.room.now); most = omega arith }
+    record { is = omega (arith, answer_long t.number t.comparisons t.scanned t.faults t.count t.room.now); most = omega arith }
 
-pub answer-len-spec : {M : Type 1} → statement M
-answer-len-spec =
+pub answer_len_spec : {M : Type 1} → statement M
+answer_len_spec =
     tie.close
     (tie.spec
     (λ c κs. tt)

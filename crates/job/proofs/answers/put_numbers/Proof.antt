@@ -2,49 +2,49 @@
 use mathlib.Core.List.{◌++◌}
 use Rattle.model.specs.Text.{decimal}
 use Rattle.text.specs.Decimals.{marked}
-use Rattle.text.proofs.Putting.{puts_then, puts-length, room-first, room-then}
-use Rattle.job.specs.Answers.{numbersOf}
+use Rattle.text.proofs.Putting.{puts_then, puts_length, room_first, room_then}
+use Rattle.job.specs.Answers.{numbers_of}
 use Rattle.job.proofs.answers.put_numbers.Statement.{statement}
 use Rattle.job.proofs.answers.put_numbers.Tie as tie
 
-put-decimal-requires : tie.Need-put-decimal-requires
-unfolding numbersOf
-put-decimal-requires c κs =
+put_decimal_requires : tie.Need-put-decimal-requires
+unfolding numbers_of
+put_decimal_requires c κs =
     let s = c.before.before in
     let t = s.args in
-    room-first t.at (decimal t.number) (marked 32 t.comparisons ++ (marked 32 t.scanned ++ marked 32 t.faults)) s.requires
+    room_first t.at (decimal t.number) (marked 32 t.comparisons ++ (marked 32 t.scanned ++ marked 32 t.faults)) s.requires
 
-put-marked-requires : tie.Need-put-marked-requires
-unfolding numbersOf
-put-marked-requires c κs =
+put_marked_requires : tie.Need-put-marked-requires
+unfolding numbers_of
+put_marked_requires c κs =
     let s = c.before.before.before.before.before.before in
     let t = s.args in
     let two = marked 32 t.scanned ++ marked 32 t.faults in
-    room-first _ (marked 32 t.comparisons) two
-    (room-then (decimal t.number) (marked 32 t.comparisons ++ two) c.before.before.before.put-decimal.ensures s.requires)
+    room_first _ (marked 32 t.comparisons) two
+    (room_then (decimal t.number) (marked 32 t.comparisons ++ two) c.before.before.before.put-decimal.ensures s.requires)
 
-put-marked-requires-2 : tie.Need-put-marked-requires-2
-unfolding numbersOf
-put-marked-requires-2 c κs =
+put_marked_requires_2 : tie.Need-put-marked-requires-2
+unfolding numbers_of
+put_marked_requires_2 c κs =
     let s = c.before.before.before.before.before.before.before.before.before.before in
     let t = s.args in
     let two = marked 32 t.scanned ++ marked 32 t.faults in
-    room-first _ (marked 32 t.scanned) (marked 32 t.faults)
-    (room-then (marked 32 t.comparisons) two c.before.before.before.put-marked.ensures
-    (room-then (decimal t.number) (marked 32 t.comparisons ++ two) c.before.before.before.before.before.before.before.put-decimal.ensures s.requires))
+    room_first _ (marked 32 t.scanned) (marked 32 t.faults)
+    (room_then (marked 32 t.comparisons) two c.before.before.before.put-marked.ensures
+    (room_then (decimal t.number) (marked 32 t.comparisons ++ two) c.before.before.before.before.before.before.before.put-decimal.ensures s.requires))
 
-put-marked-requires-3 : tie.Need-put-marked-requires-3
-unfolding numbersOf
-put-marked-requires-3 c κs =
+put_marked_requires_3 : tie.Need-put-marked-requires-3
+unfolding numbers_of
+put_marked_requires_3 c κs =
     let s = c.before.before.before.before.before.before.before.before.before.before.before.before.before.before in
     let t = s.args in
     let two = marked 32 t.scanned ++ marked 32 t.faults in
-    room-then (marked 32 t.scanned) (marked 32 t.faults) c.before.before.before.put-marked2.ensures
-    (room-then (marked 32 t.comparisons) two c.before.before.before.before.before.before.before.put-marked.ensures
-    (room-then (decimal t.number) (marked 32 t.comparisons ++ two) c.before.before.before.before.before.before.before.before.before.before.before.put-decimal.ensures s.requires))
+    room_then (marked 32 t.scanned) (marked 32 t.faults) c.before.before.before.put-marked2.ensures
+    (room_then (marked 32 t.comparisons) two c.before.before.before.before.before.before.before.put-marked.ensures
+    (room_then (decimal t.number) (marked 32 t.comparisons ++ two) c.before.before.before.before.before.before.before.before.before.before.before.put-decimal.ensures s.requires))
 
 returns : tie.Need-returns
-unfolding numbersOf
+unfolding numbers_of
 returns c =
     let t = c.before.before.before.before.before.before.before.before.before.before.before.before.before.before.before.before.before.args in
     let two = marked 32 t.scanned ++ marked 32 t.faults in
@@ -53,8 +53,8 @@ returns c =
     (puts_then (marked 32 t.scanned) (marked 32 t.faults) c.before.before.before.before.before.before.put-marked2.ensures c.before.before.put-marked3.ensures))
 
 same_length : tie.Need-same-length
-same_length c = puts-length _ (returns c)
+same_length c = puts_length _ (returns c)
 
-pub put-numbers-spec : {M : Type 1} → statement M
-put-numbers-spec =
-    tie.close (tie.spec put-decimal-requires put-marked-requires put-marked-requires-2 put-marked-requires-3 same_length returns)
+pub put_numbers_spec : {M : Type 1} → statement M
+put_numbers_spec =
+    tie.close (tie.spec put_decimal_requires put_marked_requires put_marked_requires_2 put_marked_requires_3 same_length returns)

@@ -6,72 +6,72 @@ use native.Mathlib.Omega.{arith}
 use borrow.Author.Rules.{rules}
 use lib.ListN.{drop, get_or}
 use Rattle.model.specs.Text.{fields}
-use Rattle.model.specs.Job.{bad, two, fromFields}
+use Rattle.model.specs.Job.{bad, two, from_fields}
 use Rattle.text.specs.Pieces.{span}
-use Rattle.text.proofs.Cursor.{end-from, span_rest}
-use Rattle.job.proofs.Forms.{as_line, line-long, line-short, line-one, line_first, line-two, line-more}
+use Rattle.text.proofs.Cursor.{end_from, span_rest}
+use Rattle.job.proofs.Forms.{as_line, line_long, line_short, line_one, line_first, line_two, line_more}
 use Rattle.job.proofs.fields.parse.Statement.{statement}
 use Rattle.job.proofs.fields.parse.Tie as tie
 
 returns : tie.Need-returns
-returns c = as_line _ bad _ (line-long c.before.before.before.args.line.now (omega arith)) c.bad-line.ensures
+returns c = as_line _ bad _ (line_long c.before.before.before.args.line.now (omega arith)) c.bad-line.ensures
 
-returns-2 : tie.Need-returns-2
-returns-2 c =
+returns_2 : tie.Need-returns-2
+returns_2 c =
     let p = c.before.before in
     let l = p.before.before.before.args.line.now in
-    as_line _ bad _ (line-short l (omega arith) ∙ line-one l _ p.field-end.ensures c.before.if2.true) c.bad-line2.ensures
+    as_line _ bad _ (line_short l (omega arith) ∙ line_one l _ p.field-end.ensures c.before.if2.true) c.bad-line2.ensures
 
-returns-3 : tie.Need-returns-3
-returns-3 c =
+returns_3 : tie.Need-returns-3
+returns_3 c =
     let p = c.before.before.before in
     let l = p.before.before.before.args.line.now in
-    as_line _ bad _ (line-short l (omega arith) ∙ line_first l _ p.field-end.ensures c.before.before.if2.false c.before.if3.true)
+    as_line _ bad _ (line_short l (omega arith) ∙ line_first l _ p.field-end.ensures c.before.before.if2.false c.before.if3.true)
     c.bad-line3.ensures
 
-returns-4 : tie.Need-returns-4
-returns-4 c =
+returns_4 : tie.Need-returns-4
+returns_4 c =
     let q = c.before.before.before.before in
     let p = q.before.before.before in
     let l = p.before.before.before.args.line.now in
     as_line _ (two (get_or l 0 0 ∷ []) (drop 2 l)) _
-    (line-short l (omega arith)
-    ∙ line-two l _ p.field-end.ensures q.before.before.if2.false q.before.if3.false _ q.field-end2.ensures c.before.before.before.if4.true)
+    (line_short l (omega arith)
+    ∙ line_two l _ p.field-end.ensures q.before.before.if2.false q.before.if3.false _ q.field-end2.ensures c.before.before.before.if4.true)
     (rw (← (span_rest 2 l)) c.serial-line.ensures)
 
 -- the second field begins behind the first byte and its space
 second : tie.Need-overflow-sub-longer-line
-second c = omega (arith, end-from 32 c.before.before.before.before.before.before.before.before.args.line.now 2, c.before.before.field-end2.ensures)
+second c = omega (arith, end_from 32 c.before.before.before.before.before.before.before.before.args.line.now 2, c.before.before.field-end2.ensures)
 
-returns-5 : tie.Need-returns-5
-returns-5 c =
+returns_5 : tie.Need-returns-5
+returns_5 c =
     let q = c.before.before.before.before.before in
     let p = q.before.before.before in
     let l = p.before.before.before.args.line.now in
     let end = q.field-end2.result in
-    as_line _ (fromFields ((get_or l 0 0 ∷ []) ∷ span 2 end l ∷ fields 32 (drop (end + 1) l))) _
-    (line-short l (omega arith)
-    ∙ line-more l _ p.field-end.ensures q.before.before.if2.false q.before.if3.false _ q.field-end2.ensures c.before.before.before.before.if4.false)
+    as_line _ (from_fields ((get_or l 0 0 ∷ []) ∷ span 2 end l ∷ fields 32 (drop (end + 1) l))) _
+    (line_short l (omega arith)
+    ∙ line_more l _ p.field-end.ensures q.before.before.if2.false q.before.if3.false _ q.field-end2.ensures c.before.before.before.before.if4.false)
     (rw (← (span_rest (end + 1) l)) c.longer-line.ensures)
 
-pub parse-spec : {M : Type 1} → statement M
-parse-spec =
+pub parse_spec : {M : Type 1} → statement M
+parse_spec =
     tie.close
     (tie.spec
     (λ c κs. tt)
     returns
     (λ c κs. tt)
     (λ c κs. tt)
-    returns-2
+    returns_2
     (λ c κs. tt)
-    returns-3
+    returns_3
     (λ c κs. tt)
     (λ c. search rules)
     (λ c. search rules)
     (λ c. search rules)
     (λ c. search rules)
     (λ c κs. tt)
-    returns-4
+    returns_4
     (λ c. search rules)
     (λ c. search rules)
     second
@@ -81,4 +81,4 @@ parse-spec =
     (λ c. search rules)
     (λ c. search rules)
     (λ c κs. tt)
-    returns-5)
+    returns_5)

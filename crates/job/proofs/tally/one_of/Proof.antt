@@ -6,9 +6,9 @@ use Rattle.job.proofs.tally.one_of.Tie as tie
 returns : tie.Need-returns
 returns c = rw c.before.if1.true c.one.ensures
 
-returns-2 : tie.Need-returns-2
+returns_2 : tie.Need-returns-2
 unfolding one
-returns-2 c = rw c.if1.false
+returns_2 c = rw c.if1.false
 
-pub one-of-spec : {M : Type 1} → statement M
-one-of-spec = tie.close (tie.spec (λ c κs. tt) returns returns-2)
+pub one_of_spec : {M : Type 1} → statement M
+one_of_spec = tie.close (tie.spec (λ c κs. tt) returns returns_2)

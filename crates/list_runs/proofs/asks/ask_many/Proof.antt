@@ -6,18 +6,18 @@ use lib.ListN.{length}
 use Rattle.list_runs.proofs.asks.ask_many.Statement.{statement}
 use Rattle.list_runs.proofs.asks.ask_many.Tie as tie
 
-abbrev invariant-loop : tie.invariant-loop
-invariant-loop words₀ letter times by n₀ day₀ code₀ done₀ k₀ words n day code done k = length words ≡ length words₀
+abbrev invariant_loop : tie.invariant-loop
+invariant_loop words₀ letter times by n₀ day₀ code₀ done₀ k₀ words n day code done k = length words ≡ length words₀
 
-abbrev decreases-loop : tie.decreases-loop
-decreases-loop words₀ letter times by n₀ day₀ code₀ done₀ k₀ words n day code done k = times - k
+abbrev decreases_loop : tie.decreases-loop
+decreases_loop words₀ letter times by n₀ day₀ code₀ done₀ k₀ words n day code done k = times - k
 
-pub ask-many-spec : {M : Type 1} → statement M
-ask-many-spec =
+pub ask_many_spec : {M : Type 1} → statement M
+ask_many_spec =
     tie.close
     (tie.spec
-    invariant-loop
-    decreases-loop
+    invariant_loop
+    decreases_loop
     (λ c. refl)
     (λ c κs. tt)
     (λ c κs. tt)

@@ -5,8 +5,8 @@ use lib.ListN.{length-take}
 use Rattle.list_runs.proofs.desk.report.Statement.{statement}
 use Rattle.list_runs.proofs.desk.report.Tie as tie
 
-pub report-spec : {M : Type 1} → statement M
-report-spec =
+pub report_spec : {M : Type 1} → statement M
+report_spec =
     tie.close
     (tie.spec
     (λ c. search rules)

@@ -7,19 +7,19 @@ use lib.ListN.{length}
 use Rattle.list_runs.proofs.desk.run.Statement.{statement}
 use Rattle.list_runs.proofs.desk.run.Tie as tie
 
-abbrev invariant-loop : tie.invariant-loop
-invariant-loop script words₀ lengths₀ scratch₀ out₀ d₀ at₀ words lengths scratch out d at =
+abbrev invariant_loop : tie.invariant-loop
+invariant_loop script words₀ lengths₀ scratch₀ out₀ d₀ at₀ words lengths scratch out d at =
     (length words ≡ length words₀) × (length lengths ≡ length lengths₀) × (length scratch ≡ length scratch₀) × (length out ≡ length out₀)
 
-abbrev decreases-loop : tie.decreases-loop
-decreases-loop script words₀ lengths₀ scratch₀ out₀ d₀ at₀ words lengths scratch out d at = length script - at
+abbrev decreases_loop : tie.decreases-loop
+decreases_loop script words₀ lengths₀ scratch₀ out₀ d₀ at₀ words lengths scratch out d at = length script - at
 
 pub run_spec : {M : Type 1} → statement M
 run_spec =
     tie.close
     (tie.spec
-    invariant-loop
-    decreases-loop
+    invariant_loop
+    decreases_loop
     (λ c. (refl, refl, refl, refl))
     (λ c κs. omega arith)
     (λ c. omega arith)

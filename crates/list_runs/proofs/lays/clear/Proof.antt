@@ -6,18 +6,18 @@ use lib.ListN.{length}
 use Rattle.list_runs.proofs.lays.clear.Statement.{statement}
 use Rattle.list_runs.proofs.lays.clear.Tie as tie
 
-abbrev invariant-loop : tie.invariant-loop
-invariant-loop words₀ from to at₀ words at = length words ≡ length words₀
+abbrev invariant_loop : tie.invariant-loop
+invariant_loop words₀ from to at₀ words at = length words ≡ length words₀
 
-abbrev decreases-loop : tie.decreases-loop
-decreases-loop words₀ from to at₀ words at = to - at
+abbrev decreases_loop : tie.decreases-loop
+decreases_loop words₀ from to at₀ words at = to - at
 
 pub clear_spec : {M : Type 1} → statement M
 clear_spec =
     tie.close
     (tie.spec
-    invariant-loop
-    decreases-loop
+    invariant_loop
+    decreases_loop
     (λ c. refl)
     (λ c κs. tt)
     (λ c. omega arith)

@@ -6,18 +6,18 @@ use lib.ListN.{length}
 use Rattle.list_runs.proofs.lays.patch.Statement.{statement}
 use Rattle.list_runs.proofs.lays.patch.Tie as tie
 
-abbrev invariant-loop : tie.invariant-loop
-invariant-loop words₀ count first at₀ value₀ k₀ words at value k = length words ≡ length words₀
+abbrev invariant_loop : tie.invariant-loop
+invariant_loop words₀ count first at₀ value₀ k₀ words at value k = length words ≡ length words₀
 
-abbrev decreases-loop : tie.decreases-loop
-decreases-loop words₀ count first at₀ value₀ k₀ words at value k = count - k
+abbrev decreases_loop : tie.decreases-loop
+decreases_loop words₀ count first at₀ value₀ k₀ words at value k = count - k
 
-pub patch-spec : {M : Type 1} → statement M
-patch-spec =
+pub patch_spec : {M : Type 1} → statement M
+patch_spec =
     tie.close
     (tie.spec
-    invariant-loop
-    decreases-loop
+    invariant_loop
+    decreases_loop
     (λ c. refl)
     (λ c κs. tt)
     (λ c κs. tt)

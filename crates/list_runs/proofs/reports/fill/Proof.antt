@@ -6,18 +6,18 @@ use lib.ListN.{length, length-set}
 use Rattle.list_runs.proofs.reports.fill.Statement.{statement}
 use Rattle.list_runs.proofs.reports.fill.Tie as tie
 
-abbrev invariant-loop : tie.invariant-loop
-invariant-loop bytes₀ from step x₀ i₀ bytes x i = length bytes ≡ length bytes₀
+abbrev invariant_loop : tie.invariant-loop
+invariant_loop bytes₀ from step x₀ i₀ bytes x i = length bytes ≡ length bytes₀
 
-abbrev decreases-loop : tie.decreases-loop
-decreases-loop bytes₀ from step x₀ i₀ bytes x i = length bytes - i
+abbrev decreases_loop : tie.decreases-loop
+decreases_loop bytes₀ from step x₀ i₀ bytes x i = length bytes - i
 
 pub fill_spec : {M : Type 1} → statement M
 fill_spec =
     tie.close
     (tie.spec
-    invariant-loop
-    decreases-loop
+    invariant_loop
+    decreases_loop
     (λ c. refl)
     (λ c κs. tt)
     (λ c. omega arith)

@@ -5,8 +5,8 @@ use lib.ListN.{length-take}
 use Rattle.list_runs.proofs.reports.put_text.Statement.{statement}
 use Rattle.list_runs.proofs.reports.put_text.Tie as tie
 
-pub put-text-spec : {M : Type 1} → statement M
-put-text-spec =
+pub put_text_spec : {M : Type 1} → statement M
+put_text_spec =
     tie.close
     (tie.spec
     (λ c κs. tt)

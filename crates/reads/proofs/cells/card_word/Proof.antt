@@ -3,30 +3,30 @@ use native.Mathlib.Omega.{arith}
 use borrow.Author.Rules.{rules}
 use Prim.Native.Nat.{◌<◌, ◌+◌, ◌*◌, ◌-◌}
 use lib.ListN.{length}
-use Rattle.reads.proofs.CellLaws.{card-in, card-is}
+use Rattle.reads.proofs.CellLaws.{card_in, card_is}
 use Rattle.reads.proofs.cells.card_word.Statement.{statement}
 use Rattle.reads.proofs.cells.card_word.Tie as tie
 
 inside : (c : tie.Start) → c.args.h.base + c.args.h.width * (c.args.i - 1) + c.args.k < length c.args.w.now
-inside c = card-in c.requires.0 _ _ c.requires.1 c.requires.2 c.requires.3
+inside c = card_in c.requires.0 _ _ c.requires.1 c.requires.2 c.requires.3
 
-mul-result : tie.Need-overflow-mul-result
-mul-result c = omega (arith, inside c.before.before, c.before.before.requires.0.room)
+mul_result : tie.Need-overflow-mul-result
+mul_result c = omega (arith, inside c.before.before, c.before.before.requires.0.room)
 
-add-result : tie.Need-overflow-add-result
-add-result c = omega (arith, inside c.before.before, c.before.before.requires.0.room)
+add_result : tie.Need-overflow-add-result
+add_result c = omega (arith, inside c.before.before, c.before.before.requires.0.room)
 
-mul-result-2 : tie.Need-overflow-mul-result-2
-mul-result-2 c = omega (arith, inside c.before.before, c.before.before.requires.0.room)
+mul_result_2 : tie.Need-overflow-mul-result-2
+mul_result_2 c = omega (arith, inside c.before.before, c.before.before.requires.0.room)
 
-shared-slice-read-result : tie.Need-shared-slice-read-result
-shared-slice-read-result c = omega (arith, inside c.before.before.before)
+shared_slice_read_result : tie.Need-shared-slice-read-result
+shared_slice_read_result c = omega (arith, inside c.before.before.before)
 
 returns : tie.Need-returns
-returns c = let p = c.before.before.before.requires in card-is p.0 _ _ p.1 p.2 p.3
+returns c = let p = c.before.before.before.requires in card_is p.0 _ _ p.1 p.2 p.3
 
-pub card-word-spec : {M : Type 1} → statement M
-card-word-spec =
+pub card_word_spec : {M : Type 1} → statement M
+card_word_spec =
     tie.close
     (tie.spec
     (λ c. search rules)
@@ -35,8 +35,8 @@ card-word-spec =
     (λ c. search rules)
     (λ c. search rules)
     (λ c. search rules)
-    mul-result
-    add-result
-    mul-result-2
-    shared-slice-read-result
+    mul_result
+    add_result
+    mul_result_2
+    shared_slice_read_result
     returns)

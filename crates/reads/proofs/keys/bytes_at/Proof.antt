@@ -8,8 +8,8 @@ returns : tie.Need-returns
 unfolding bytes_at
 returns c = rw (c.unpack.ensures, c.before.key-at.ensures)
 
-pub bytes-at-spec : {M : Type 1} → statement M
-bytes-at-spec =
+pub bytes_at_spec : {M : Type 1} → statement M
+bytes_at_spec =
     tie.close
     (tie.spec
     (λ c κs. search rules)

@@ -8,5 +8,5 @@ use Rattle.reads.proofs.keys.last_word.Tie as tie
 returns : tie.Need-returns
 returns c = (omega arith, λ a b. (omega arith, omega arith))
 
-pub last-word-spec : {M : Type 1} → statement M
-last-word-spec = tie.close (tie.spec (λ c. search rules) (λ c. omega arith) returns)
+pub last_word_spec : {M : Type 1} → statement M
+last_word_spec = tie.close (tie.spec (λ c. search rules) (λ c. omega arith) returns)

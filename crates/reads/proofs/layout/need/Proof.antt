@@ -1,12 +1,12 @@
 -- `layout::need` meets its contract: a bit for each of 1,024 cards and 2,048 faults, whatever the words are.
 use mathlib.Core.Path.{refl}
-use Rattle.model.specs.Shape.{mostCards, mostFaults, need}
+use Rattle.model.specs.Shape.{most_cards, most_faults, need}
 use Rattle.reads.proofs.layout.need.Statement.{statement}
 use Rattle.reads.proofs.layout.need.Tie as tie
 
 returns : tie.Need-returns
-unfolding need mostCards mostFaults
+unfolding need most_cards most_faults
 returns c = refl
 
-pub need-spec : {M : Type 1} → statement M
-need-spec = tie.close (tie.spec returns)
+pub need_spec : {M : Type 1} → statement M
+need_spec = tie.close (tie.spec returns)

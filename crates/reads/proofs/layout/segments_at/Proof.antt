@@ -8,5 +8,5 @@ returns : tie.Need-returns
 unfolding entries
 returns c = refl
 
-pub segments-at-spec : {M : Type 1} → statement M
-segments-at-spec = tie.close (tie.spec returns)
+pub segments_at_spec : {M : Type 1} → statement M
+segments_at_spec = tie.close (tie.spec returns)

@@ -8,5 +8,5 @@ returns : tie.Need-returns
 unfolding entries
 returns c = refl
 
-pub top-of-spec : {M : Type 1} → statement M
-top-of-spec = tie.close (tie.spec returns)
+pub top_of_spec : {M : Type 1} → statement M
+top_of_spec = tie.close (tie.spec returns)

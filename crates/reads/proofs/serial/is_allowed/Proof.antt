@@ -2,24 +2,24 @@
 use mathlib.Core.Path.{sym}
 use native.Mathlib.Omega.{arith}
 use borrow.Author.Rules.{rules}
-use Rattle.reads.proofs.SerialLaws.{early-not-allowed, late-not-allowed, table-tells}
+use Rattle.reads.proofs.SerialLaws.{early_not_allowed, late_not_allowed, table_tells}
 use Rattle.reads.proofs.serial.is_allowed.Statement.{statement}
 use Rattle.reads.proofs.serial.is_allowed.Tie as tie
 
 returns : tie.Need-returns
-returns c = sym (early-not-allowed c.before.args.b c.if1.true)
+returns c = sym (early_not_allowed c.before.args.b c.if1.true)
 
-returns-2 : tie.Need-returns-2
-returns-2 c = sym (late-not-allowed c.before.before.args.b c.if2.true (omega arith))
+returns_2 : tie.Need-returns-2
+returns_2 c = sym (late_not_allowed c.before.before.args.b c.if2.true (omega arith))
 
-cast-result : tie.Need-overflow-cast-result
-cast-result c = search rules
+cast_result : tie.Need-overflow-cast-result
+cast_result c = search rules
 
-shr-result : tie.Need-overflow-shr-result
-shr-result c = search rules
+shr_result : tie.Need-overflow-shr-result
+shr_result c = search rules
 
-returns-3 : tie.Need-returns-3
-returns-3 c = table-tells c.before.before.args.b (omega arith) (omega arith)
+returns_3 : tie.Need-returns-3
+returns_3 c = table_tells c.before.before.args.b (omega arith) (omega arith)
 
-pub is-allowed-spec : {M : Type 1} → statement M
-is-allowed-spec = tie.close (tie.spec returns returns-2 cast-result shr-result returns-3)
+pub is_allowed_spec : {M : Type 1} → statement M
+is_allowed_spec = tie.close (tie.spec returns returns_2 cast_result shr_result returns_3)

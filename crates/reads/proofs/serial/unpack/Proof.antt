@@ -15,8 +15,8 @@ returns last =
     ∷ third.before.before.before.byte33.ensures t ∷ third.before.before.byte23.ensures t ∷ third.before.byte13.ensures t ∷ third.byte03.ensures t
     ∷ last.before.before.before.byte34.ensures t ∷ last.before.before.byte24.ensures t ∷ last.before.byte14.ensures t ∷ last.byte04.ensures t ∷ []
 
-pub unpack-spec : {M : Type 1} → statement M
-unpack-spec =
+pub unpack_spec : {M : Type 1} → statement M
+unpack_spec =
     tie.close
     (tie.spec
     (λ c κs. tt)

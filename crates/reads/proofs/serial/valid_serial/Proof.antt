@@ -9,45 +9,45 @@ use lib.Dec.{eqb}
 use lib.ListN.{drop, length-drop}
 use lib.Seq.{length-take-le, take_all}
 use Rattle.model.specs.Lists.{all}
-use Rattle.model.specs.Serial.{mostBytes}
-use Rattle.reads.proofs.Rows.{and-rest, and-fails}
-use Rattle.reads.proofs.SerialLaws.{valid-parts, short-invalid, long-invalid}
+use Rattle.model.specs.Serial.{most_bytes}
+use Rattle.reads.proofs.Rows.{and_rest, and_fails}
+use Rattle.reads.proofs.SerialLaws.{valid_parts, short_invalid, long_invalid}
 use Rattle.reads.proofs.serial.valid_serial.Statement.{statement}
 use Rattle.reads.proofs.serial.valid_serial.Tie as tie
 
 returns : tie.Need-returns
-returns c = sym (short-invalid c.before.args.t1 c.before.args.len (omega arith))
+returns c = sym (short_invalid c.before.args.t1 c.before.args.len (omega arith))
 
-returns-2 : tie.Need-returns-2
-returns-2 c = sym (long-invalid c.before.before.args.t1 c.before.before.args.len (omega arith) (omega arith))
+returns_2 : tie.Need-returns-2
+returns_2 c = sym (long_invalid c.before.before.args.t1 c.before.before.args.len (omega arith) (omega arith))
 
-slice-aggregate-all-allowed : tie.Need-slice-aggregate-all-allowed
-slice-aggregate-all-allowed c = let a = c.before.before.before.args in sym (length-take-le a.len a.t1 (omega arith))
+slice_aggregate_all_allowed : tie.Need-slice-aggregate-all-allowed
+slice_aggregate_all_allowed c = let a = c.before.before.before.args in sym (length-take-le a.len a.t1 (omega arith))
 
-returns-3 : tie.Need-returns-3
-returns-3 c =
+returns_3 : tie.Need-returns-3
+returns_3 c =
     let a = c.before.before.before.before.before.args in
     let e = sym c.before.all-allowed.ensures ∙ not-true c.before.all-allowed.result c.if3.true in
-    sym (valid-parts a.t1 a.len (omega arith) (omega arith) (omega arith) ∙ and-fails _ e)
+    sym (valid_parts a.t1 a.len (omega arith) (omega arith) (omega arith) ∙ and_fails _ e)
 
-returns-4 : tie.Need-returns-4
-returns-4 c =
+returns_4 : tie.Need-returns-4
+returns_4 c =
     let a = c.before.before.before.before.before.before.before.before.args in
     let b = c.before.before.before.before.all-allowed in
     let e = sym b.ensures ∙ not-false b.result c.before.before.before.if3.false in
-    let z = take_all (mostBytes - a.len) (drop a.len a.t1) (omega (arith, length-drop a.len a.t1)) in
-    c.all-zero.ensures ∙ ap (all (eqb 0)) z ∙ sym (valid-parts a.t1 a.len (omega arith) (omega arith) (omega arith) ∙ and-rest _ e)
+    let z = take_all (most_bytes - a.len) (drop a.len a.t1) (omega (arith, length-drop a.len a.t1)) in
+    c.all-zero.ensures ∙ ap (all (eqb 0)) z ∙ sym (valid_parts a.t1 a.len (omega arith) (omega arith) (omega arith) ∙ and_rest _ e)
 
-pub valid-serial-spec : {M : Type 1} → statement M
-valid-serial-spec =
+pub valid_serial_spec : {M : Type 1} → statement M
+valid_serial_spec =
     tie.close (tie.spec
     returns
-    returns-2
+    returns_2
     (λ c. search rules)
-    slice-aggregate-all-allowed
+    slice_aggregate_all_allowed
     (λ c κs. tt)
-    returns-3
+    returns_3
     (λ c. search rules)
     (λ c. search rules)
     (λ c κs. tt)
-    returns-4)
+    returns_4)

@@ -5,23 +5,23 @@ use Prim.Native.Nat.{ℕ, ◌+◌}
 use native.Mathlib.Omega.{arith}
 use borrow.Author.Tests.{eq-eqb, ne_eqb}
 use Rattle.rules.proofs.Tests.{eq?}
-use Rattle.report.specs.Rows.{cardsAfter}
+use Rattle.report.specs.Rows.{cards_after}
 use Rattle.report.proofs.rows.cards_after.Statement.{statement}
 use Rattle.report.proofs.rows.cards_after.Tie as tie
 
 -- the card that was counted last is not counted again
-once : (cards seen n : ℕ) → seen ≡ n → cardsAfter cards seen n ≡ cards
-unfolding cardsAfter
+once : (cards seen n : ℕ) → seen ≡ n → cards_after cards seen n ≡ cards
+unfolding cards_after
 once cards seen n e = rw (eq-eqb _ _ e)
 
 -- any other is
-first : (cards seen n : ℕ) → (seen ≡ n → ⊥) → cardsAfter cards seen n ≡ cards + 1
-unfolding cardsAfter
+first : (cards seen n : ℕ) → (seen ≡ n → ⊥) → cards_after cards seen n ≡ cards + 1
+unfolding cards_after
 first cards seen n h = rw (ne_eqb _ _ h)
 
 -- where one is added, the card is not the one that was counted last
-returns-2 : tie.Need-returns-2
-returns-2 c =
+returns_2 : tie.Need-returns-2
+returns_2 c =
     let a = c.before.args in
     ⊎_elim (λ e. omega (arith, e, once a.cards a.seen a.n e)) (λ h. omega (arith, first a.cards a.seen a.n h)) (eq? a.seen a.n)
 
@@ -30,5 +30,5 @@ returns c =
     let a = c.before.args in
     ⊎_elim (λ e. omega (arith, once a.cards a.seen a.n e)) (λ h. omega (arith, h, first a.cards a.seen a.n h)) (eq? a.seen a.n)
 
-pub cards-after-spec : {M : Type 1} → statement M
-cards-after-spec = tie.close (tie.spec (λ c. omega arith) returns returns-2)
+pub cards_after_spec : {M : Type 1} → statement M
+cards_after_spec = tie.close (tie.spec (λ c. omega arith) returns returns_2)

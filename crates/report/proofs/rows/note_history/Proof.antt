@@ -4,72 +4,72 @@ use Prim.Native.Nat.{◌≤◌}
 use native.Mathlib.Omega.{arith}
 use lib.ListN.{length}
 use Rattle.model.specs.Layout.{follow}
-use Rattle.model.specs.Meaning.{nextFault}
-use Rattle.reads.specs.Cells.{shapeIn}
-use Rattle.reads.proofs.EndsLaws.{ends-here, ends-less}
-use Rattle.report.proofs.RowLaws.{noted-long}
-use Rattle.report.proofs.Histories.{Noting, noting-end, noting-code, noting-takes, noting-next}
+use Rattle.model.specs.Meaning.{next_fault}
+use Rattle.reads.specs.Cells.{shape_in}
+use Rattle.reads.proofs.EndsLaws.{ends_here, ends_less}
+use Rattle.report.proofs.RowLaws.{noted_long}
+use Rattle.report.proofs.Histories.{Noting, noting_end, noting_code, noting_takes, noting_next}
 use Rattle.report.proofs.rows.note_history.Statement.{statement}
 use Rattle.report.proofs.rows.note_history.Tie as tie
 
-abbrev invariant-loop : tie.invariant-loop
-invariant-loop w h first rows₀ n i₀ rows i = (length rows ≡ length rows₀) × Noting (shapeIn h) w n rows₀ first rows i
+abbrev invariant_loop : tie.invariant-loop
+invariant_loop w h first rows₀ n i₀ rows i = (length rows ≡ length rows₀) × Noting (shape_in h) w n rows₀ first rows i
 
-abbrev decreases-loop : tie.decreases-loop
-decreases-loop w h first rows₀ n i₀ rows i = length (follow h.faults (nextFault (shapeIn h) w) i)
+abbrev decreases_loop : tie.decreases-loop
+decreases_loop w h first rows₀ n i₀ rows i = length (follow h.faults (next_fault (shape_in h) w) i)
 
-loop-holds : tie.Need-loop-init invariant-loop decreases-loop
-loop-holds c = let p = c.before.before.requires in (refl, record { ends = p.1; codes = p.2; takes = p.3; same = refl })
+loop_holds : tie.Need-loop-init invariant_loop decreases_loop
+loop_holds c = let p = c.before.before.requires in (refl, record { ends = p.1; codes = p.2; takes = p.3; same = refl })
 
 -- in a turn cell i is a fault's
-inside : (c : tie.In-loop invariant-loop decreases-loop) → (1 ≤ c.before.loop.i) × (c.before.loop.i ≤ c.before.before.before.before.args.h.faults)
-inside c = ends-here c.before.loop.invariant.1.ends c.loop-test.true
+inside : (c : tie.In-loop invariant_loop decreases_loop) → (1 ≤ c.before.loop.i) × (c.before.loop.i ≤ c.before.before.before.before.args.h.faults)
+inside c = ends_here c.before.loop.invariant.1.ends c.loop-test.true
 
-fault-word-requires : tie.Need-fault-word-requires invariant-loop decreases-loop
-fault-word-requires c κs = (c.before.before.before.before.requires.0, (inside c).0, (inside c).1, omega arith)
+fault_word_requires : tie.Need-fault-word-requires invariant_loop decreases_loop
+fault_word_requires c κs = (c.before.before.before.before.requires.0, (inside c).0, (inside c).1, omega arith)
 
-fault-word-requires-2 : tie.Need-fault-word-requires-2 invariant-loop decreases-loop
-fault-word-requires-2 c κs = let i = c.before in (i.before.before.before.before.requires.0, (inside i).0, (inside i).1, omega arith)
+fault_word_requires_2 : tie.Need-fault-word-requires-2 invariant_loop decreases_loop
+fault_word_requires_2 c κs = let i = c.before in (i.before.before.before.before.requires.0, (inside i).0, (inside i).1, omega arith)
 
-fault-word-requires-3 : tie.Need-fault-word-requires-3 invariant-loop decreases-loop
-fault-word-requires-3 c κs = let i = c.before.before in (i.before.before.before.before.requires.0, (inside i).0, (inside i).1, omega arith)
+fault_word_requires_3 : tie.Need-fault-word-requires-3 invariant_loop decreases_loop
+fault_word_requires_3 c κs = let i = c.before.before in (i.before.before.before.before.requires.0, (inside i).0, (inside i).1, omega arith)
 
 -- the next cell is read, and the turn that it is read in
-abbrev turn : tie.After-fault-word3 invariant-loop decreases-loop → tie.In-loop invariant-loop decreases-loop
+abbrev turn : tie.After-fault-word3 invariant_loop decreases_loop → tie.In-loop invariant_loop decreases_loop
 turn c = c.before.before.before
 
-note-requires : tie.Need-note-requires invariant-loop decreases-loop
-note-requires c κs =
+note_requires : tie.Need-note-requires invariant_loop decreases_loop
+note_requires c κs =
     let k = c.before in
     let l = (turn k).before.loop.invariant.1 in
-    (rw k.before.fault-word2.ensures (noting-code l (turn k).loop-test.true), noting-takes l (turn k).loop-test.true)
+    (rw k.before.fault-word2.ensures (noting_code l (turn k).loop-test.true), noting_takes l (turn k).loop-test.true)
 
-loop-less : tie.Need-loop-smaller invariant-loop decreases-loop
-loop-less c =
+loop_less : tie.Need-loop-smaller invariant_loop decreases_loop
+loop_less c =
     let k = c.before.before.before.before in
-    rw k.fault-word3.ensures (ends-less (turn k).before.loop.invariant.1.ends (turn k).loop-test.true)
+    rw k.fault-word3.ensures (ends_less (turn k).before.loop.invariant.1.ends (turn k).loop-test.true)
 
-loop-again : tie.Need-loop-preserved invariant-loop decreases-loop
-loop-again c =
+loop_again : tie.Need-loop-preserved invariant_loop decreases_loop
+loop_again c =
     let k = c.before.before.before.before in
     let l = (turn k).before.loop.invariant in
     let e = c.before.before.note.ensures in (
-      ap length e ∙ noted-long _ _ _ ∙ l.0,
-      noting-next l.1 (turn k).loop-test.true k.before.before.fault-word.ensures k.before.fault-word2.ensures k.fault-word3.ensures e,
+      ap length e ∙ noted_long _ _ _ ∙ l.0,
+      noting_next l.1 (turn k).loop-test.true k.before.before.fault-word.ensures k.before.fault-word2.ensures k.fault-word3.ensures e,
     )
 
-pub note-history-spec : {M : Type 1} → statement M
-note-history-spec =
+pub note_history_spec : {M : Type 1} → statement M
+note_history_spec =
     tie.close
     (tie.spec
-    invariant-loop
-    decreases-loop
-    loop-holds
-    fault-word-requires
-    fault-word-requires-2
-    fault-word-requires-3
-    note-requires
-    loop-less
-    loop-again
+    invariant_loop
+    decreases_loop
+    loop_holds
+    fault_word_requires
+    fault_word_requires_2
+    fault_word_requires_3
+    note_requires
+    loop_less
+    loop_again
     (λ c. c.before.loop.invariant.0)
-    (λ c. noting-end c.before.loop.invariant.1 c.loop-test.false))
+    (λ c. noting_end c.before.loop.invariant.1 c.loop-test.false))

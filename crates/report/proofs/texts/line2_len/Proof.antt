@@ -2,15 +2,15 @@
 use mathlib.Core.List.{[]}
 use native.Mathlib.Omega.{arith}
 use borrow.Author.Rules.{rules}
-use Rattle.report.proofs.TextLaws.{line-more}
+use Rattle.report.proofs.TextLaws.{line_more}
 use Rattle.report.proofs.texts.line2_len.Statement.{statement}
 use Rattle.report.proofs.texts.line2_len.Tie as tie
 
 returns : tie.Need-returns
 returns c =
     let t = c.before.before.args in
-    let l = line-more t.a t.b [] in
+    let l = line_more t.a t.b [] in
     record { is = omega arith; few = omega arith }
 
-pub line2-len-spec : {M : Type 1} → statement M
-line2-len-spec = tie.close (tie.spec (λ c κs. tt) (λ c. search rules) (λ c κs. tt) (λ c. search rules) returns)
+pub line2_len_spec : {M : Type 1} → statement M
+line2_len_spec = tie.close (tie.spec (λ c κs. tt) (λ c. search rules) (λ c κs. tt) (λ c. search rules) returns)

@@ -2,41 +2,41 @@
 use mathlib.Core.List.{[], ◌∷◌}
 use native.Mathlib.Omega.{arith}
 use Rattle.model.specs.Text.{space, decimal}
-use Rattle.model.specs.Report.{numbersLine}
-use Rattle.text.proofs.Putting.{puts_then, puts-length, room-first, room-then}
+use Rattle.model.specs.Report.{numbers_line}
+use Rattle.text.proofs.Putting.{puts_then, puts_length, room_first, room_then}
 use Rattle.report.proofs.texts.put_line2.Statement.{statement}
 use Rattle.report.proofs.texts.put_line2.Tie as tie
 
-put-decimal-requires : tie.Need-put-decimal-requires
-unfolding numbersLine
-put-decimal-requires c κs =
+put_decimal_requires : tie.Need-put-decimal-requires
+unfolding numbers_line
+put_decimal_requires c κs =
     let s = c.before.before in
-    room-first s.args.at (decimal s.args.a) (space ∷ numbersLine (s.args.b ∷ [])) s.requires
+    room_first s.args.at (decimal s.args.a) (space ∷ numbers_line (s.args.b ∷ [])) s.requires
 
-put-byte-requires : tie.Need-put-byte-requires
-unfolding numbersLine
-put-byte-requires c κs =
+put_byte_requires : tie.Need-put-byte-requires
+unfolding numbers_line
+put_byte_requires c κs =
     let s = c.before.before.before.before.before.before in
-    omega (arith, room-then (decimal s.args.a) (space ∷ numbersLine (s.args.b ∷ [])) c.before.before.before.put-decimal.ensures s.requires)
+    omega (arith, room_then (decimal s.args.a) (space ∷ numbers_line (s.args.b ∷ [])) c.before.before.before.put-decimal.ensures s.requires)
 
-put-line1-requires : tie.Need-put-line1-requires
-unfolding numbersLine
-put-line1-requires c κs =
+put_line1_requires : tie.Need-put-line1-requires
+unfolding numbers_line
+put_line1_requires c κs =
     let s = c.before.before.before.before.before.before.before.before.before.before in
-    let last = numbersLine (s.args.b ∷ []) in
-    room-then (space ∷ []) last c.before.before.before.put_byte.ensures
-    (room-then (decimal s.args.a) (space ∷ last) c.before.before.before.before.before.before.before.put-decimal.ensures s.requires)
+    let last = numbers_line (s.args.b ∷ []) in
+    room_then (space ∷ []) last c.before.before.before.put_byte.ensures
+    (room_then (decimal s.args.a) (space ∷ last) c.before.before.before.before.before.before.before.put-decimal.ensures s.requires)
 
 returns : tie.Need-returns
-unfolding numbersLine
+unfolding numbers_line
 returns c =
     let t = c.before.before.before.before.before.before.before.before.before.before.before.before.before.args in
-    let last = numbersLine (t.b ∷ []) in
+    let last = numbers_line (t.b ∷ []) in
     puts_then (decimal t.a) (space ∷ last) c.before.before.before.before.before.before.before.before.before.before.put-decimal.ensures
     (puts_then (space ∷ []) last c.before.before.before.before.before.before.put_byte.ensures c.before.before.put-line1.ensures)
 
 same_length : tie.Need-same-length
-same_length c = puts-length _ (returns c)
+same_length c = puts_length _ (returns c)
 
-pub put-line2-spec : {M : Type 1} → statement M
-put-line2-spec = tie.close (tie.spec put-decimal-requires put-byte-requires put-line1-requires same_length returns)
+pub put_line2_spec : {M : Type 1} → statement M
+put_line2_spec = tie.close (tie.spec put_decimal_requires put_byte_requires put_line1_requires same_length returns)

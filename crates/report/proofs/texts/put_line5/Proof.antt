@@ -2,69 +2,69 @@
 use mathlib.Core.List.{[], ◌∷◌, ◌++◌}
 use native.Mathlib.Omega.{arith}
 use Rattle.model.specs.Text.{space, decimal}
-use Rattle.model.specs.Report.{numbersLine}
+use Rattle.model.specs.Report.{numbers_line}
 use Rattle.text.specs.Decimals.{marked}
-use Rattle.text.proofs.Putting.{puts_then, puts-length, room-first, room-then}
+use Rattle.text.proofs.Putting.{puts_then, puts_length, room_first, room_then}
 use Rattle.report.proofs.texts.put_line5.Statement.{statement}
 use Rattle.report.proofs.texts.put_line5.Tie as tie
 
-put-decimal-requires : tie.Need-put-decimal-requires
-unfolding numbersLine marked
-put-decimal-requires c κs =
+put_decimal_requires : tie.Need-put-decimal-requires
+unfolding numbers_line marked
+put_decimal_requires c κs =
     let s = c.before.before in
     let t = s.args in
-    room-first t.at (decimal t.a) (marked space t.b ++ (marked space t.c ++ (space ∷ numbersLine (t.d ∷ t.e ∷ [])))) s.requires
+    room_first t.at (decimal t.a) (marked space t.b ++ (marked space t.c ++ (space ∷ numbers_line (t.d ∷ t.e ∷ [])))) s.requires
 
-put-marked-requires : tie.Need-put-marked-requires
-unfolding numbersLine marked
-put-marked-requires c κs =
+put_marked_requires : tie.Need-put-marked-requires
+unfolding numbers_line marked
+put_marked_requires c κs =
     let s = c.before.before.before.before.before.before in
     let t = s.args in
-    let three = marked space t.c ++ (space ∷ numbersLine (t.d ∷ t.e ∷ [])) in
-    room-first _ (marked space t.b) three (room-then (decimal t.a) (marked space t.b ++ three) c.before.before.before.put-decimal.ensures s.requires)
+    let three = marked space t.c ++ (space ∷ numbers_line (t.d ∷ t.e ∷ [])) in
+    room_first _ (marked space t.b) three (room_then (decimal t.a) (marked space t.b ++ three) c.before.before.before.put-decimal.ensures s.requires)
 
-put-marked-requires-2 : tie.Need-put-marked-requires-2
-unfolding numbersLine marked
-put-marked-requires-2 c κs =
+put_marked_requires_2 : tie.Need-put-marked-requires-2
+unfolding numbers_line marked
+put_marked_requires_2 c κs =
     let s = c.before.before.before.before.before.before.before.before.before.before in
     let t = s.args in
-    let two = space ∷ numbersLine (t.d ∷ t.e ∷ []) in
+    let two = space ∷ numbers_line (t.d ∷ t.e ∷ []) in
     let three = marked space t.c ++ two in
-    room-first _ (marked space t.c) two
-    (room-then (marked space t.b) three c.before.before.before.put-marked.ensures
-    (room-then (decimal t.a) (marked space t.b ++ three) c.before.before.before.before.before.before.before.put-decimal.ensures s.requires))
+    room_first _ (marked space t.c) two
+    (room_then (marked space t.b) three c.before.before.before.put-marked.ensures
+    (room_then (decimal t.a) (marked space t.b ++ three) c.before.before.before.before.before.before.before.put-decimal.ensures s.requires))
 
-put-byte-requires : tie.Need-put-byte-requires
-unfolding numbersLine marked
-put-byte-requires c κs =
+put_byte_requires : tie.Need-put-byte-requires
+unfolding numbers_line marked
+put_byte_requires c κs =
     let s = c.before.before.before.before.before.before.before.before.before.before.before.before.before.before in
     let t = s.args in
-    let two = space ∷ numbersLine (t.d ∷ t.e ∷ []) in
+    let two = space ∷ numbers_line (t.d ∷ t.e ∷ []) in
     let three = marked space t.c ++ two in
     omega (
       arith,
-      room-then (marked space t.c) two c.before.before.before.put-marked2.ensures
-          (room-then (marked space t.b) three c.before.before.before.before.before.before.before.put-marked.ensures
-          (room-then (decimal t.a) (marked space t.b ++ three) c.before.before.before.before.before.before.before.before.before.before.before.put-decimal.ensures s.requires)),
+      room_then (marked space t.c) two c.before.before.before.put-marked2.ensures
+          (room_then (marked space t.b) three c.before.before.before.before.before.before.before.put-marked.ensures
+          (room_then (decimal t.a) (marked space t.b ++ three) c.before.before.before.before.before.before.before.before.before.before.before.put-decimal.ensures s.requires)),
     )
 
-put-line2-requires : tie.Need-put-line2-requires
-unfolding numbersLine marked
-put-line2-requires c κs =
+put_line2_requires : tie.Need-put-line2-requires
+unfolding numbers_line marked
+put_line2_requires c κs =
     let s = c.before.before.before.before.before.before.before.before.before.before.before.before.before.before.before.before.before.before in
     let t = s.args in
-    let line = numbersLine (t.d ∷ t.e ∷ []) in
+    let line = numbers_line (t.d ∷ t.e ∷ []) in
     let three = marked space t.c ++ (space ∷ line) in
-    room-then (space ∷ []) line c.before.before.before.put_byte.ensures
-    (room-then (marked space t.c) (space ∷ line) c.before.before.before.before.before.before.before.put-marked2.ensures
-    (room-then (marked space t.b) three c.before.before.before.before.before.before.before.before.before.before.before.put-marked.ensures
-    (room-then (decimal t.a) (marked space t.b ++ three) c.before.before.before.before.before.before.before.before.before.before.before.before.before.before.before.put-decimal.ensures s.requires)))
+    room_then (space ∷ []) line c.before.before.before.put_byte.ensures
+    (room_then (marked space t.c) (space ∷ line) c.before.before.before.before.before.before.before.put-marked2.ensures
+    (room_then (marked space t.b) three c.before.before.before.before.before.before.before.before.before.before.before.put-marked.ensures
+    (room_then (decimal t.a) (marked space t.b ++ three) c.before.before.before.before.before.before.before.before.before.before.before.before.before.before.before.put-decimal.ensures s.requires)))
 
 returns : tie.Need-returns
-unfolding numbersLine marked
+unfolding numbers_line marked
 returns c =
     let t = c.before.before.before.before.before.before.before.before.before.before.before.before.before.before.before.before.before.before.before.before.before.args in
-    let line = numbersLine (t.d ∷ t.e ∷ []) in
+    let line = numbers_line (t.d ∷ t.e ∷ []) in
     let three = marked space t.c ++ (space ∷ line) in
     puts_then (decimal t.a) (marked space t.b ++ three) c.before.before.before.before.before.before.before.before.before.before.before.before.before.before.before.before.before.before.put-decimal.ensures
     (puts_then (marked space t.b) three c.before.before.before.before.before.before.before.before.before.before.before.before.before.before.put-marked.ensures
@@ -72,16 +72,16 @@ returns c =
     (puts_then (space ∷ []) line c.before.before.before.before.before.before.put_byte.ensures c.before.before.put-line2.ensures)))
 
 same_length : tie.Need-same-length
-same_length c = puts-length _ (returns c)
+same_length c = puts_length _ (returns c)
 
-pub put-line5-spec : {M : Type 1} → statement M
-put-line5-spec =
+pub put_line5_spec : {M : Type 1} → statement M
+put_line5_spec =
     tie.close
     (tie.spec
-    put-decimal-requires
-    put-marked-requires
-    put-marked-requires-2
-    put-byte-requires
-    put-line2-requires
+    put_decimal_requires
+    put_marked_requires
+    put_marked_requires_2
+    put_byte_requires
+    put_line2_requires
     same_length
     returns)

@@ -2,19 +2,19 @@
 -- front and the totals behind them, which is the whole text. Assumes nothing.
 use native.Mathlib.Omega.{arith}
 use borrow.Author.Rules.{rules}
-use Rattle.model.specs.Serial.{mostCode}
-use Rattle.model.specs.Report.{totalLines}
+use Rattle.model.specs.Serial.{most_code}
+use Rattle.model.specs.Report.{total_lines}
 use Rattle.text.specs.Decimals.{Puts}
-use Rattle.text.proofs.Putting.{puts_then, puts-length}
+use Rattle.text.proofs.Putting.{puts_then, puts_length}
 use Rattle.report.specs.Texts.{row_lines, text_of}
-use Rattle.report.proofs.TextLaws.{text-long, report-refused, report-written}
+use Rattle.report.proofs.TextLaws.{text_long, report_refused, report_written}
 use Rattle.report.proofs.texts.put_report.Statement.{statement}
 use Rattle.report.proofs.texts.put_report.Tie as tie
 
 returns : tie.Need-returns
 returns c =
     let t = c.before.before.before.before.before.before.args in
-    rw c.refuse.ensures (report-refused (text_of t.rows.now t.t) t.out.now (omega (arith, text-long t.rows.now t.t)))
+    rw c.refuse.ensures (report_refused (text_of t.rows.now t.t) t.out.now (omega (arith, text_long t.rows.now t.t)))
 
 -- lines and totals are one text
 whole : (c : tie.After-slice-known3) → let t = c.before.before.before.before.before.before.before.before.before.before.before.before.before.args in
@@ -22,20 +22,20 @@ whole : (c : tie.After-slice-known3) → let t = c.before.before.before.before.b
 unfolding text_of
 whole c =
     let t = c.before.before.before.before.before.before.before.before.before.before.before.before.before.args in
-    puts_then (row_lines t.rows.now 1 mostCode) (totalLines t.t.cards t.t.entries)
+    puts_then (row_lines t.rows.now 1 most_code) (total_lines t.t.cards t.t.entries)
     c.before.before.before.before.before.before.put-rows.ensures c.before.before.put-totals.ensures
 
-returns-2 : tie.Need-returns-2
-returns-2 c =
+returns_2 : tie.Need-returns-2
+returns_2 c =
     let t = c.before.before.before.before.before.before.before.before.before.before.before.before.before.args in
-    report-written (text_of t.rows.now t.t) t.out.now (omega (arith, text-long t.rows.now t.t)) (whole c)
+    report_written (text_of t.rows.now t.t) t.out.now (omega (arith, text_long t.rows.now t.t)) (whole c)
 
 same_length : tie.Need-same-length
-same_length c = puts-length _ (whole c)
+same_length c = puts_length _ (whole c)
 
 -- in order: the two lengths, their sum, the refusal, the lines, the totals, the cast, the length, the return
-pub put-report-spec : {M : Type 1} → statement M
-put-report-spec =
+pub put_report_spec : {M : Type 1} → statement M
+put_report_spec =
     tie.close
     (tie.spec
     (λ c κs. search rules)
@@ -47,4 +47,4 @@ put-report-spec =
     (λ c κs. search rules)
     (λ c. search rules)
     same_length
-    returns-2)
+    returns_2)

@@ -2,61 +2,61 @@
 use mathlib.Core.List.{◌++◌}
 use Prim.Native.Nat.{◌+◌, ◌-◌, ◌≤◌}
 use native.Mathlib.Omega.{arith}
-use Rattle.model.specs.Serial.{mostCode}
-use Rattle.text.proofs.Putting.{Left, left-all, left_less, left-room, left-none, room-first}
+use Rattle.model.specs.Serial.{most_code}
+use Rattle.text.proofs.Putting.{Left, left_all, left_less, left_room, left_none, room_first}
 use Rattle.report.specs.Rows.{row_of}
 use Rattle.report.specs.Texts.{row_line, row_lines}
-use Rattle.report.proofs.TextLaws.{rows-turn, rows-done}
+use Rattle.report.proofs.TextLaws.{rows_turn, rows_done}
 use Rattle.report.proofs.texts.put_rows.Statement.{statement}
 use Rattle.report.proofs.texts.put_rows.Tie as tie
 
-abbrev invariant-loop : tie.invariant-loop
-invariant-loop out₀ at rows end₀ k₀ out end k =
-    (1 ≤ k) × (k ≤ mostCode + 1) × Left out₀ at (row_lines rows 1 mostCode) out end (row_lines rows k (mostCode + 1 - k))
+abbrev invariant_loop : tie.invariant-loop
+invariant_loop out₀ at rows end₀ k₀ out end k =
+    (1 ≤ k) × (k ≤ most_code + 1) × Left out₀ at (row_lines rows 1 most_code) out end (row_lines rows k (most_code + 1 - k))
 
-abbrev decreases-loop : tie.decreases-loop
-decreases-loop out₀ at rows end₀ k₀ out end k = mostCode + 1 - k
+abbrev decreases_loop : tie.decreases-loop
+decreases_loop out₀ at rows end₀ k₀ out end k = most_code + 1 - k
 
-loop-holds : tie.Need-loop-init invariant-loop decreases-loop
-loop-holds c = (omega arith, omega arith, left-all)
+loop_holds : tie.Need-loop-init invariant_loop decreases_loop
+loop_holds c = (omega arith, omega arith, left_all)
 
 -- the line of the next code stands before what is left behind it
-next : (c : tie.In-loop invariant-loop decreases-loop) → let s = c.before.before.before.before.args in let j = c.before.loop in
-    Left s.out.now s.at (row_lines s.rows.now 1 mostCode) j.out j.end
-    (row_line j.k (row_of s.rows.now j.k) ++ row_lines s.rows.now (j.k + 1) (mostCode + 1 - (j.k + 1)))
+next : (c : tie.In-loop invariant_loop decreases_loop) → let s = c.before.before.before.before.args in let j = c.before.loop in
+    Left s.out.now s.at (row_lines s.rows.now 1 most_code) j.out j.end
+    (row_line j.k (row_of s.rows.now j.k) ++ row_lines s.rows.now (j.k + 1) (most_code + 1 - (j.k + 1)))
 next c =
     let s = c.before.before.before.before.args in
     let j = c.before.loop in
-    rw (rows-turn s.rows.now j.k mostCode (omega arith)) at j.invariant.2
+    rw (rows_turn s.rows.now j.k most_code (omega arith)) at j.invariant.2
 
-put-row-requires : tie.Need-put-row-requires invariant-loop decreases-loop
-put-row-requires c κs =
+put_row_requires : tie.Need-put-row-requires invariant_loop decreases_loop
+put_row_requires c κs =
     let s = c.before.before.before.before.before in
     let k = c.before.before.loop.k in
-    (s.requires.0, omega arith, room-first _ (row_line k (row_of s.args.rows.now k)) _ (left-room _ (next c.before) s.requires.1))
+    (s.requires.0, omega arith, room_first _ (row_line k (row_of s.args.rows.now k)) _ (left_room _ (next c.before) s.requires.1))
 
-loop-again : tie.Need-loop-preserved invariant-loop decreases-loop
-loop-again c = (omega arith, omega arith, left_less _ _ (next c.before.before.before.before) c.before.before.put-row.ensures)
+loop_again : tie.Need-loop-preserved invariant_loop decreases_loop
+loop_again c = (omega arith, omega arith, left_less _ _ (next c.before.before.before.before) c.before.before.put-row.ensures)
 
-same_length : tie.Need-same-length invariant-loop decreases-loop
+same_length : tie.Need-same-length invariant_loop decreases_loop
 same_length c = c.before.loop.invariant.2.long
 
-returns : tie.Need-returns invariant-loop decreases-loop
+returns : tie.Need-returns invariant_loop decreases_loop
 returns c =
     let j = c.before.loop in
-    left-none (rw (rows-done c.before.before.before.before.args.rows.now j.k mostCode (omega arith)) at j.invariant.2)
+    left_none (rw (rows_done c.before.before.before.before.args.rows.now j.k most_code (omega arith)) at j.invariant.2)
 
 -- in order: the loop's start, the row, `k + 1`, the measure, a turn, the length, the return
-pub put-rows-spec : {M : Type 1} → statement M
-put-rows-spec =
+pub put_rows_spec : {M : Type 1} → statement M
+put_rows_spec =
     tie.close
     (tie.spec
-    invariant-loop
-    decreases-loop
-    loop-holds
-    put-row-requires
+    invariant_loop
+    decreases_loop
+    loop_holds
+    put_row_requires
     (λ c. omega arith)
     (λ c. omega arith)
-    loop-again
+    loop_again
     same_length
     returns)

@@ -2,19 +2,19 @@
 use mathlib.Core.Path.{◌≡◌}
 use native.Mathlib.Omega.{arith}
 use borrow.Author.Rules.{rules}
-use Rattle.report.proofs.TextLaws.{long-none, rate-none, rate-some}
+use Rattle.report.proofs.TextLaws.{long_none, rate_none, rate_some}
 use Rattle.report.proofs.texts.rate_len.Statement.{statement}
 use Rattle.report.proofs.texts.rate_len.Tie as tie
 
 returns : tie.Need-returns
-returns c = let t = c.before.before.args.t in long-none (rate-none t.cards t.entries (omega arith))
+returns c = let t = c.before.before.args.t in long_none (rate_none t.cards t.entries (omega arith))
 
-returns-2 : tie.Need-returns-2
-returns-2 c =
+returns_2 : tie.Need-returns-2
+returns_2 c =
     let t = c.before.before.before.before.before.before.args.t in
     let some : t.cards ≡ 0 → ⊥ = λ z. omega arith in
-    rw (rate-some t.cards t.entries some) c.line2-len.ensures
+    rw (rate_some t.cards t.entries some) c.line2-len.ensures
 
 -- in order: the return without cards, the product, the quotient, the remainder, the line, the return
-pub rate-len-spec : {M : Type 1} → statement M
-rate-len-spec = tie.close (tie.spec returns (λ c. search rules) (λ c. search rules) (λ c. search rules) (λ c κs. tt) returns-2)
+pub rate_len_spec : {M : Type 1} → statement M
+rate_len_spec = tie.close (tie.spec returns (λ c. search rules) (λ c. search rules) (λ c. search rules) (λ c κs. tt) returns_2)

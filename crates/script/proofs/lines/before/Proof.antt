@@ -5,18 +5,18 @@ use lib.ListN.{length}
 use Rattle.script.proofs.lines.before.Statement.{statement}
 use Rattle.script.proofs.lines.before.Tie as tie
 
-abbrev invariant-loop : tie.invariant-loop
-invariant-loop bytes mark i₀ i = i ≤ length bytes
+abbrev invariant_loop : tie.invariant-loop
+invariant_loop bytes mark i₀ i = i ≤ length bytes
 
-abbrev decreases-loop : tie.decreases-loop
-decreases-loop bytes mark i₀ i = length bytes - i
+abbrev decreases_loop : tie.decreases-loop
+decreases_loop bytes mark i₀ i = length bytes - i
 
-pub before-spec : {M : Type 1} → statement M
-before-spec =
+pub before_spec : {M : Type 1} → statement M
+before_spec =
     tie.close
     (tie.spec
-    invariant-loop
-    decreases-loop
+    invariant_loop
+    decreases_loop
     (λ c. omega arith)
     (λ c. omega arith)
     (λ c. omega arith)

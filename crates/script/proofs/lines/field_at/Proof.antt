@@ -5,18 +5,18 @@ use lib.ListN.{length}
 use Rattle.script.proofs.lines.field_at.Statement.{statement}
 use Rattle.script.proofs.lines.field_at.Tie as tie
 
-abbrev invariant-loop : tie.invariant-loop
-invariant-loop line k at₀ i₀ at i = at ≤ length line
+abbrev invariant_loop : tie.invariant-loop
+invariant_loop line k at₀ i₀ at i = at ≤ length line
 
-abbrev decreases-loop : tie.decreases-loop
-decreases-loop line k at₀ i₀ at i = k - i
+abbrev decreases_loop : tie.decreases-loop
+decreases_loop line k at₀ i₀ at i = k - i
 
-pub field-at-spec : {M : Type 1} → statement M
-field-at-spec =
+pub field_at_spec : {M : Type 1} → statement M
+field_at_spec =
     tie.close
     (tie.spec
-    invariant-loop
-    decreases-loop
+    invariant_loop
+    decreases_loop
     (λ c. omega arith)
     (λ c κs. omega arith)
     (λ c κs. tt)

@@ -5,18 +5,18 @@ use lib.ListN.{length}
 use Rattle.script.proofs.lines.number.Statement.{statement}
 use Rattle.script.proofs.lines.number.Tie as tie
 
-abbrev invariant-loop : tie.invariant-loop
-invariant-loop field n₀ i₀ n i = Unit {0}
+abbrev invariant_loop : tie.invariant-loop
+invariant_loop field n₀ i₀ n i = Unit {0}
 
-abbrev decreases-loop : tie.decreases-loop
-decreases-loop field n₀ i₀ n i = length field - i
+abbrev decreases_loop : tie.decreases-loop
+decreases_loop field n₀ i₀ n i = length field - i
 
-pub number-spec : {M : Type 1} → statement M
-number-spec =
+pub number_spec : {M : Type 1} → statement M
+number_spec =
     tie.close
     (tie.spec
-    invariant-loop
-    decreases-loop
+    invariant_loop
+    decreases_loop
     (λ c. tt)
     (λ c. omega arith)
     (λ c κs. tt)

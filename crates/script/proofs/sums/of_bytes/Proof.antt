@@ -5,18 +5,18 @@ use lib.ListN.{length}
 use Rattle.script.proofs.sums.of_bytes.Statement.{statement}
 use Rattle.script.proofs.sums.of_bytes.Tie as tie
 
-abbrev invariant-loop : tie.invariant-loop
-invariant-loop bytes sum₀ i₀ sum i = Unit {0}
+abbrev invariant_loop : tie.invariant-loop
+invariant_loop bytes sum₀ i₀ sum i = Unit {0}
 
-abbrev decreases-loop : tie.decreases-loop
-decreases-loop bytes sum₀ i₀ sum i = length bytes - i
+abbrev decreases_loop : tie.decreases-loop
+decreases_loop bytes sum₀ i₀ sum i = length bytes - i
 
-pub of-bytes-spec : {M : Type 1} → statement M
-of-bytes-spec =
+pub of_bytes_spec : {M : Type 1} → statement M
+of_bytes_spec =
     tie.close
     (tie.spec
-    invariant-loop
-    decreases-loop
+    invariant_loop
+    decreases_loop
     (λ c. tt)
     (λ c. omega arith)
     (λ c κs. tt)

@@ -5,18 +5,18 @@ use lib.ListN.{length}
 use Rattle.script.proofs.sums.of_words.Statement.{statement}
 use Rattle.script.proofs.sums.of_words.Tie as tie
 
-abbrev invariant-loop : tie.invariant-loop
-invariant-loop words sum₀ i₀ sum i = Unit {0}
+abbrev invariant_loop : tie.invariant-loop
+invariant_loop words sum₀ i₀ sum i = Unit {0}
 
-abbrev decreases-loop : tie.decreases-loop
-decreases-loop words sum₀ i₀ sum i = length words - i
+abbrev decreases_loop : tie.decreases-loop
+decreases_loop words sum₀ i₀ sum i = length words - i
 
-pub of-words-spec : {M : Type 1} → statement M
-of-words-spec =
+pub of_words_spec : {M : Type 1} → statement M
+of_words_spec =
     tie.close
     (tie.spec
-    invariant-loop
-    decreases-loop
+    invariant_loop
+    decreases_loop
     (λ c. tt)
     (λ c. omega arith)
     (λ c. omega arith)

@@ -3,5 +3,5 @@ use mathlib.Core.Path.{refl}
 use Rattle.store.proofs.plans.answer_of.Statement.{statement}
 use Rattle.store.proofs.plans.answer_of.Tie as tie
 
-pub answer-of-spec : {M : Type 1} → statement M
-answer-of-spec = tie.close (tie.spec (λ c. refl))
+pub answer_of_spec : {M : Type 1} → statement M
+answer_of_spec = tie.close (tie.spec (λ c. refl))

@@ -2,26 +2,26 @@
 use mathlib.Core.Path.{sym, ◌∙◌}
 use borrow.Author.Rules.{rules}
 use borrow.Author.Tests.{not-true, not-false}
-use Rattle.store.proofs.PlanLaws.{pairs-invalid}
+use Rattle.store.proofs.PlanLaws.{pairs_invalid}
 use Rattle.store.proofs.plans.plan_show.Statement.{statement}
 use Rattle.store.proofs.plans.plan_show.Tie as tie
 
 returns : tie.Need-returns
 returns c =
     let i = c.before.before in
-    pairs-invalid _ _ _ c.refuse-early.ensures (sym i.valid-serial.ensures ∙ not-true i.valid-serial.result c.before.if1.true) _
+    pairs_invalid _ _ _ c.refuse-early.ensures (sym i.valid-serial.ensures ∙ not-true i.valid-serial.result c.before.if1.true) _
 
-plan-pairs-requires : tie.Need-plan-pairs-requires
-plan-pairs-requires c κs =
+plan_pairs_requires : tie.Need-plan-pairs-requires
+plan_pairs_requires c κs =
     let i = c.before in
     (i.before.before.requires, sym i.valid-serial.ensures ∙ not-false i.valid-serial.result c.if1.false)
 
-pub plan-show-spec : {M : Type 1} → statement M
-plan-show-spec =
+pub plan_show_spec : {M : Type 1} → statement M
+plan_show_spec =
     tie.close
     (tie.spec
     (λ c κs. search rules)
     (λ c κs. search rules)
     returns
-    plan-pairs-requires
+    plan_pairs_requires
     (λ c. search rules))

@@ -4,18 +4,18 @@ use borrow.Author.Rules.{rules}
 use Rattle.store_calls.proofs.chains.put_chain.Statement.{statement}
 use Rattle.store_calls.proofs.chains.put_chain.Tie as tie
 
-abbrev invariant-loop : tie.invariant-loop
-invariant-loop words bucket cell₀ left₀ cell left = Unit {0}
+abbrev invariant_loop : tie.invariant-loop
+invariant_loop words bucket cell₀ left₀ cell left = Unit {0}
 
-abbrev decreases-loop : tie.decreases-loop
-decreases-loop words bucket cell₀ left₀ cell left = left
+abbrev decreases_loop : tie.decreases-loop
+decreases_loop words bucket cell₀ left₀ cell left = left
 
-pub put-chain-spec : {M : Type 1} → statement M
-put-chain-spec =
+pub put_chain_spec : {M : Type 1} → statement M
+put_chain_spec =
     tie.close
     (tie.spec
-    invariant-loop
-    decreases-loop
+    invariant_loop
+    decreases_loop
     (λ c. search rules)
     (λ c κs. tt)
     (λ c. omega arith)

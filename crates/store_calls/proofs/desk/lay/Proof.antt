@@ -6,18 +6,18 @@ use lib.ListN.{length}
 use Rattle.store_calls.proofs.desk.lay.Statement.{statement}
 use Rattle.store_calls.proofs.desk.lay.Tie as tie
 
-abbrev invariant-loop : tie.invariant-loop
-invariant-loop serial₀ from bytes at₀ i₀ serial at i = length serial ≡ length serial₀
+abbrev invariant_loop : tie.invariant-loop
+invariant_loop serial₀ from bytes at₀ i₀ serial at i = length serial ≡ length serial₀
 
-abbrev decreases-loop : tie.decreases-loop
-decreases-loop serial₀ from bytes at₀ i₀ serial at i = length bytes - i
+abbrev decreases_loop : tie.decreases-loop
+decreases_loop serial₀ from bytes at₀ i₀ serial at i = length bytes - i
 
-pub lay-spec : {M : Type 1} → statement M
-lay-spec =
+pub lay_spec : {M : Type 1} → statement M
+lay_spec =
     tie.close
     (tie.spec
-    invariant-loop
-    decreases-loop
+    invariant_loop
+    decreases_loop
     (λ c. refl)
     (λ c. omega arith)
     (λ c κs. tt)

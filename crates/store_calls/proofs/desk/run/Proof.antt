@@ -7,22 +7,22 @@ use lib.ListN.{length}
 use Rattle.store_calls.proofs.desk.run.Statement.{statement}
 use Rattle.store_calls.proofs.desk.run.Tie as tie
 
-abbrev invariant-loop : tie.invariant-loop
-invariant-loop script words₀ scratch₀ room₀ lent₀ at₀ words scratch room lent at =
+abbrev invariant_loop : tie.invariant-loop
+invariant_loop script words₀ scratch₀ room₀ lent₀ at₀ words scratch room lent at =
     (length words ≡ length words₀) × (length scratch ≡ length scratch₀) × (length room ≡ length room₀)
 
-abbrev decreases-loop : tie.decreases-loop
-decreases-loop script words₀ scratch₀ room₀ lent₀ at₀ words scratch room lent at = length script - at
+abbrev decreases_loop : tie.decreases-loop
+decreases_loop script words₀ scratch₀ room₀ lent₀ at₀ words scratch room lent at = length script - at
 
 -- where the line was done, and where its turn began
-abbrev done : tie.After-past invariant-loop decreases-loop → tie.After-turn invariant-loop decreases-loop
+abbrev done : tie.After-past invariant_loop decreases_loop → tie.After-turn invariant_loop decreases_loop
 done c = c.before.before.before.before.before.before.before
 
-abbrev began : tie.After-turn invariant-loop decreases-loop → tie.At-loop invariant-loop decreases-loop
+abbrev began : tie.After-turn invariant_loop decreases_loop → tie.At-loop invariant_loop decreases_loop
 began c = c.before.before.before.before.before.before.before.before
 
-loop-again : tie.Need-loop-preserved invariant-loop decreases-loop
-loop-again c =
+loop_again : tie.Need-loop-preserved invariant_loop decreases_loop
+loop_again c =
     let d = done c in
     let b = (began d).loop.inv in
     (d.turn.kept.1.0 ∙ b.0, d.turn.kept.1.1.0 ∙ b.1, d.turn.kept.1.1.1.0 ∙ b.2)
@@ -31,8 +31,8 @@ pub run_spec : {M : Type 1} → statement M
 run_spec =
     tie.close
     (tie.spec
-    invariant-loop
-    decreases-loop
+    invariant_loop
+    decreases_loop
     (λ c. (refl, refl, refl))
     (λ c κs. omega arith)
     (λ c. omega arith)
@@ -42,7 +42,7 @@ run_spec =
     (λ c κs. tt)
     (λ c κs. tt)
     (λ c. omega arith)
-    loop-again
+    loop_again
     (λ c. c.before.loop.invariant.0)
     (λ c. c.before.loop.invariant.1)
     (λ c. c.before.loop.invariant.2)

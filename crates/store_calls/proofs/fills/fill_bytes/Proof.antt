@@ -6,18 +6,18 @@ use lib.ListN.{length, length-set}
 use Rattle.store_calls.proofs.fills.fill_bytes.Statement.{statement}
 use Rattle.store_calls.proofs.fills.fill_bytes.Tie as tie
 
-abbrev invariant-loop : tie.invariant-loop
-invariant-loop bytes₀ i₀ bytes i = length bytes ≡ length bytes₀
+abbrev invariant_loop : tie.invariant-loop
+invariant_loop bytes₀ i₀ bytes i = length bytes ≡ length bytes₀
 
-abbrev decreases-loop : tie.decreases-loop
-decreases-loop bytes₀ i₀ bytes i = length bytes - i
+abbrev decreases_loop : tie.decreases-loop
+decreases_loop bytes₀ i₀ bytes i = length bytes - i
 
-pub fill-bytes-spec : {M : Type 1} → statement M
-fill-bytes-spec =
+pub fill_bytes_spec : {M : Type 1} → statement M
+fill_bytes_spec =
     tie.close
     (tie.spec
-    invariant-loop
-    decreases-loop
+    invariant_loop
+    decreases_loop
     (λ c. refl)
     (λ c κs. tt)
     (λ c. omega arith)

@@ -6,18 +6,18 @@ use lib.ListN.{length, length-set}
 use Rattle.store_calls.proofs.fills.fill_words.Statement.{statement}
 use Rattle.store_calls.proofs.fills.fill_words.Tie as tie
 
-abbrev invariant-loop : tie.invariant-loop
-invariant-loop words₀ i₀ words i = length words ≡ length words₀
+abbrev invariant_loop : tie.invariant-loop
+invariant_loop words₀ i₀ words i = length words ≡ length words₀
 
-abbrev decreases-loop : tie.decreases-loop
-decreases-loop words₀ i₀ words i = length words - i
+abbrev decreases_loop : tie.decreases-loop
+decreases_loop words₀ i₀ words i = length words - i
 
-pub fill-words-spec : {M : Type 1} → statement M
-fill-words-spec =
+pub fill_words_spec : {M : Type 1} → statement M
+fill_words_spec =
     tie.close
     (tie.spec
-    invariant-loop
-    decreases-loop
+    invariant_loop
+    decreases_loop
     (λ c. refl)
     (λ c κs. tt)
     (λ c. omega arith)

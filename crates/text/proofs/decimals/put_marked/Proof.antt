@@ -3,17 +3,17 @@ use mathlib.Core.List.{[], ◌∷◌}
 use native.Mathlib.Omega.{arith}
 use Rattle.model.specs.Text.{decimal}
 use Rattle.text.specs.Decimals.{marked}
-use Rattle.text.proofs.Putting.{puts_then, puts-length, room-first, room-then}
+use Rattle.text.proofs.Putting.{puts_then, puts_length, room_first, room_then}
 use Rattle.text.proofs.decimals.put_marked.Statement.{statement}
 use Rattle.text.proofs.decimals.put_marked.Tie as tie
 
-put-byte-requires : tie.Need-put-byte-requires
+put_byte_requires : tie.Need-put-byte-requires
 unfolding marked
-put-byte-requires c κs = let s = c.before.before in omega (arith, room-first s.args.at (s.args.mark ∷ []) (decimal s.args.n) s.requires)
+put_byte_requires c κs = let s = c.before.before in omega (arith, room_first s.args.at (s.args.mark ∷ []) (decimal s.args.n) s.requires)
 
-put-decimal-requires : tie.Need-put-decimal-requires
+put_decimal_requires : tie.Need-put-decimal-requires
 unfolding marked
-put-decimal-requires c κs = let s = c.before.before.before.before.before.before in room-then (s.args.mark ∷ []) (decimal s.args.n) c.before.before.before.put_byte.ensures s.requires
+put_decimal_requires c κs = let s = c.before.before.before.before.before.before in room_then (s.args.mark ∷ []) (decimal s.args.n) c.before.before.before.put_byte.ensures s.requires
 
 returns : tie.Need-returns
 unfolding marked
@@ -23,7 +23,7 @@ returns c =
 
 same_length : tie.Need-same-length
 unfolding marked
-same_length c = puts-length _ (returns c)
+same_length c = puts_length _ (returns c)
 
-pub put-marked-spec : {M : Type 1} → statement M
-put-marked-spec = tie.close (tie.spec put-byte-requires put-decimal-requires same_length returns)
+pub put_marked_spec : {M : Type 1} → statement M
+put_marked_spec = tie.close (tie.spec put_byte_requires put_decimal_requires same_length returns)

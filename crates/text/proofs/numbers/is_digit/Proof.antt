@@ -8,9 +8,9 @@ returns : tie.Need-returns
 unfolding between
 returns c = simp (le-leb _ _ c.if1.true)
 
-returns-2 : tie.Need-returns-2
+returns_2 : tie.Need-returns-2
 unfolding between
-returns-2 c = simp (lt-leb _ _ c.if1.false)
+returns_2 c = simp (lt-leb _ _ c.if1.false)
 
-pub is-digit-spec : {M : Type 1} → statement M
-is-digit-spec = tie.close (tie.spec returns returns-2)
+pub is_digit_spec : {M : Type 1} → statement M
+is_digit_spec = tie.close (tie.spec returns returns_2)

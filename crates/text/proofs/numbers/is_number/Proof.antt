@@ -11,17 +11,17 @@ returns : tie.Need-returns
 unfolding is_number between
 returns c = simp (lt-leb 1 (length c.before.before.args.field.now) (omega arith))
 
-returns-2 : tie.Need-returns-2
+returns_2 : tie.Need-returns-2
 unfolding is_number between
-returns-2 c =
+returns_2 c =
     let n = length c.before.before.before.args.field.now in
     simp (le-leb 1 n (omega arith), lt-leb n 9 (omega arith))
 
-returns-3 : tie.Need-returns-3
+returns_3 : tie.Need-returns-3
 unfolding is_number between
-returns-3 c =
+returns_3 c =
     let n = length c.before.before.before.before.args.field.now in
     simp (le-leb 1 n (omega arith), le-leb n 9 (omega arith)) c.all_digits.ensures
 
-pub is-number-spec : {M : Type 1} → statement M
-is-number-spec = tie.close (tie.spec returns returns-2 (λ c κs. tt) returns-3)
+pub is_number_spec : {M : Type 1} → statement M
+is_number_spec = tie.close (tie.spec returns returns_2 (λ c κs. tt) returns_3)

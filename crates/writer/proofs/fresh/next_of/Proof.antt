@@ -9,9 +9,9 @@ returns : tie.Need-returns
 unfolding behind
 returns c = rw (lt-ltb _ _ c.if1.true)
 
-returns-2 : tie.Need-returns-2
+returns_2 : tie.Need-returns-2
 unfolding behind
-returns-2 c = rw (le-ltb _ _ c.if1.false)
+returns_2 c = rw (le-ltb _ _ c.if1.false)
 
-pub next-of-spec : {M : Type 1} → statement M
-next-of-spec = tie.close (tie.spec (λ c. search rules) returns returns-2)
+pub next_of_spec : {M : Type 1} → statement M
+next_of_spec = tie.close (tie.spec (λ c. search rules) returns returns_2)

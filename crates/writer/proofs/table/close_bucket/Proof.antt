@@ -1,17 +1,17 @@
 -- `table::close_bucket` meets its contract: the directory is written where n is the first bucket of a segment.
 use borrow.Author.Rules.{rules}
 use borrow.Author.Tests.{eq-eqb, ne_eqb}
-use Rattle.model.specs.Words.{closeWords}
+use Rattle.model.specs.Words.{close_words}
 use Rattle.writer.proofs.table.close_bucket.Statement.{statement}
 use Rattle.writer.proofs.table.close_bucket.Tie as tie
 
 returns : tie.Need-returns
-unfolding closeWords
+unfolding close_words
 returns c = rw (eq-eqb _ _ c.if1.true)
 
-returns-2 : tie.Need-returns-2
-unfolding closeWords
-returns-2 c = rw (ne_eqb _ _ c.if1.false)
+returns_2 : tie.Need-returns-2
+unfolding close_words
+returns_2 c = rw (ne_eqb _ _ c.if1.false)
 
-pub close-bucket-spec : {M : Type 1} → statement M
-close-bucket-spec = tie.close (tie.spec (λ c. search rules) (λ c. search rules) (λ c. search rules) (λ c. search rules) (λ c. search rules) returns returns-2)
+pub close_bucket_spec : {M : Type 1} → statement M
+close_bucket_spec = tie.close (tie.spec (λ c. search rules) (λ c. search rules) (λ c. search rules) (λ c. search rules) (λ c. search rules) returns returns_2)

@@ -2,31 +2,31 @@
 use mathlib.Core.Path.{sym, ◌∙◌}
 use native.Mathlib.Omega.{arith}
 use borrow.Author.Rules.{rules}
-use Rattle.writer.proofs.GrowLaws.{fairly-room, may-split, grow-yes, grow-no}
+use Rattle.writer.proofs.GrowLaws.{fairly_room, may_split, grow_yes, grow_no}
 use Rattle.writer.proofs.table.grow.Statement.{statement}
 use Rattle.writer.proofs.table.grow.Tie as tie
 
-add-must-split : tie.Need-overflow-add-must-split
-add-must-split c = let p = c.before.before.requires in omega (arith, fairly-room p.0 p.1, p.1.sized.room)
+add_must_split : tie.Need-overflow-add-must-split
+add_must_split c = let p = c.before.before.requires in omega (arith, fairly_room p.0 p.1, p.1.sized.room)
 
-split-requires : tie.Need-split-requires
-split-requires c κs =
+split_requires : tie.Need-split-requires
+split_requires c κs =
     let t = c.before.before in
     let p = t.before.before.before.requires in
-    may-split p.0 p.1 p.2 (sym t.must-split.ensures ∙ c.before.if1.true)
+    may_split p.0 p.1 p.2 (sym t.must-split.ensures ∙ c.before.if1.true)
 
 returns : tie.Need-returns
 returns c =
     let r = c.before.before in
     let t = r.before.before.before in
     let p = t.before.before.before.requires in
-    grow-yes p.0 p.1 p.2 (sym t.must-split.ensures ∙ r.before.before.if1.true) r.split.ensures
+    grow_yes p.0 p.1 p.2 (sym t.must-split.ensures ∙ r.before.before.if1.true) r.split.ensures
 
-returns-2 : tie.Need-returns-2
-returns-2 c =
+returns_2 : tie.Need-returns-2
+returns_2 c =
     let t = c.before in
     let p = t.before.before.before.requires in
-    grow-no p.0 p.1 p.2 (sym t.must-split.ensures ∙ c.if1.false)
+    grow_no p.0 p.1 p.2 (sym t.must-split.ensures ∙ c.if1.false)
 
 pub grow_spec : {M : Type 1} → statement M
-grow_spec = tie.close (tie.spec add-must-split (λ c κs. search rules) split-requires (λ c. search rules) returns returns-2)
+grow_spec = tie.close (tie.spec add_must_split (λ c κs. search rules) split_requires (λ c. search rules) returns returns_2)

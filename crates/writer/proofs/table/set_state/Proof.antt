@@ -5,5 +5,5 @@ use lib.ListN.{length-set}
 use Rattle.writer.proofs.table.set_state.Statement.{statement}
 use Rattle.writer.proofs.table.set_state.Tie as tie
 
-pub set-state-spec : {M : Type 1} → statement M
-set-state-spec = tie.close (tie.spec (λ c. search rules) (λ c. simp length-set (omega arith)) (λ c. search rules) (λ c. search rules))
+pub set_state_spec : {M : Type 1} → statement M
+set_state_spec = tie.close (tie.spec (λ c. search rules) (λ c. simp length-set (omega arith)) (λ c. search rules) (λ c. search rules))

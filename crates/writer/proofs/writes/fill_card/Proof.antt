@@ -1,5 +1,5 @@
 -- `writes::fill_card` meets its contract: cell i stands whole in the part.
-use Rattle.model.specs.Bounds.{leastWidth}
+use Rattle.model.specs.Bounds.{least_width}
 use mathlib.Core.Path.{◌≡◌, ap}
 use Prim.Native.Nat.{ℕ, ◌+◌, ◌-◌, ◌*◌, ◌≤◌}
 use native.Mathlib.Omega.{arith}
@@ -8,14 +8,14 @@ use lib.ListN.{length}
 use Rattle.writer.proofs.writes.fill_card.Statement.{statement}
 use Rattle.writer.proofs.writes.fill_card.Tie as tie
 
-inside : (c : tie.Start) → c.args.width * (c.args.i - 1) + leastWidth ≤ length c.args.cards.now
+inside : (c : tie.Start) → c.args.width * (c.args.i - 1) + least_width ≤ length c.args.cards.now
 inside c =
     let a = c.args in
     let e : a.width * (a.i - 1 + 1) ≡ a.width * a.i = ap (λ (m : ℕ). a.width * m) (let d : a.i - 1 + 1 ≡ a.i = omega (arith, c.requires.0) in d) in
     omega (arith, c.requires)
 
-pub fill-card-spec : {M : Type 1} → statement M
-fill-card-spec =
+pub fill_card_spec : {M : Type 1} → statement M
+fill_card_spec =
     tie.close
     (tie.spec
     (λ c. search rules)

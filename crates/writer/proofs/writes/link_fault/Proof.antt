@@ -2,7 +2,7 @@
 use native.Mathlib.Nat.{pos_of_ne-zero}
 use borrow.Author.Tests.{eq-eqb, ne_eqb}
 use lib.Dec.{lit<}
-use Rattle.model.specs.Layout.{toFirst}
+use Rattle.model.specs.Layout.{to_first}
 use Rattle.reads.proofs.CellLaws.{word_in}
 use Rattle.writer.proofs.writes.link_fault.Statement.{statement}
 use Rattle.writer.proofs.writes.link_fault.Tie as tie
@@ -10,16 +10,16 @@ use Rattle.writer.proofs.writes.link_fault.Tie as tie
 returns : tie.Need-returns
 returns c = rw (eq-eqb _ 0 c.before.before.before.before.if1.true) c.before.before.put-card.ensures
 
-returns-2 : tie.Need-returns-2
-returns-2 c = rw (ne_eqb _ 0 c.before.before.before.before.if1.false) c.before.before.put-fault.ensures
+returns_2 : tie.Need-returns-2
+returns_2 c = rw (ne_eqb _ 0 c.before.before.before.before.if1.false) c.before.before.put-fault.ensures
 
-pub link-fault-spec : {M : Type 1} → statement M
-link-fault-spec =
+pub link_fault_spec : {M : Type 1} → statement M
+link_fault_spec =
     tie.close
     (tie.spec
-    (λ c κs. let p = c.before.before.before.requires in (p.0, p.2, p.3, word_in p.0 toFirst (lit< tt)))
+    (λ c κs. let p = c.before.before.before.requires in (p.0, p.2, p.3, word_in p.0 to_first (lit< tt)))
     (λ c κs. let p = c.before.before.before.requires in (p.0, pos_of_ne-zero c.before.if1.false, p.1, lit< tt))
     (λ c. c.before.before.put-card.auto.0)
     returns
     (λ c. c.before.before.put-fault.auto.0)
-    returns-2)
+    returns_2)

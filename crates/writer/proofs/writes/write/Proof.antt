@@ -9,19 +9,19 @@ use Rattle.writer.proofs.WriteLaws.{sets_more}
 use Rattle.writer.proofs.writes.write.Statement.{statement}
 use Rattle.writer.proofs.writes.write.Tie as tie
 
-abbrev invariant-loop : tie.invariant-loop
-invariant-loop part₀ at words k₀ part k = (k ≤ length words) × (length part ≡ length part₀) × (part ≡ sets part₀ at (take k words))
+abbrev invariant_loop : tie.invariant-loop
+invariant_loop part₀ at words k₀ part k = (k ≤ length words) × (length part ≡ length part₀) × (part ≡ sets part₀ at (take k words))
 
-abbrev decreases-loop : tie.decreases-loop
-decreases-loop part₀ at words k₀ part k = length words - k
+abbrev decreases_loop : tie.decreases-loop
+decreases_loop part₀ at words k₀ part k = length words - k
 
-loop-again : tie.Need-loop-preserved invariant-loop decreases-loop
-loop-again c =
+loop_again : tie.Need-loop-preserved invariant_loop decreases_loop
+loop_again c =
     let a = c.before.before.before.args in
     let l = c.before.before.loop in
     (omega arith, simp length-set l.invariant.1, rw (add-one, l.invariant.2) (sym (sets_more a.part.now a.words.now a.at l.k (omega arith))))
 
-returns : tie.Need-returns invariant-loop decreases-loop
+returns : tie.Need-returns invariant_loop decreases_loop
 returns c =
     let a = c.before.before.args in
     c.before.loop.invariant.2 ∙ ap (sets a.part.now a.at) (take_all c.before.loop.k a.words.now (omega arith))
@@ -30,8 +30,8 @@ pub write_spec : {M : Type 1} → statement M
 write_spec =
     tie.close
     (tie.spec
-    invariant-loop
-    decreases-loop
+    invariant_loop
+    decreases_loop
     (λ c. (omega arith, refl, refl))
     (λ c. omega arith)
     (λ c. omega arith)
@@ -40,6 +40,6 @@ write_spec =
     (λ c. omega arith)
     (λ c. omega arith)
     (λ c. omega arith)
-    loop-again
+    loop_again
     (λ c. c.before.loop.invariant.1)
     returns)
