@@ -1,4 +1,6 @@
 // The proved job behind the interface of host/bench/README.md: frames on standard input, a line of sums at the end.
+#![tactic(auto)]
+
 ghost use Rattle.std.specs.Prelude.{◌≤◌, ◌<◌, length};
 
 use job::Tally;

@@ -1,4 +1,6 @@
 // The proved report behind the interface of host/bench/README.md: words on standard input, a line of sums at the end.
+#![tactic(auto)]
+
 ghost use Rattle.std.specs.Prelude.{◌≡◌, ◌+◌, ◌≤◌, min, length};
 
 use std::num::{wrapping_add_u32, wrapping_add_u64, wrapping_add_usize};

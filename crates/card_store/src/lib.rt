@@ -1,5 +1,7 @@
 // The exports: the whole store for a C or Rust program, in one archive. Each function hands on to the one below it, under the same contract,
 // and asks nothing of what it is lent; include/reader.h says what a caller has to keep.
+#![tactic(auto)]
+
 ghost use Rattle.std.specs.Prelude.{◌≡◌, []};
 ghost use Rattle.rules.specs.Code.{code_of};
 ghost use Rattle.rules.specs.Table.{address_of};

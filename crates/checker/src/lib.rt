@@ -1,5 +1,7 @@
 // The checker of soundness: whether any words are those of a sound store, by one walk over their cells. `check` is public, to `store`,
 // which asks it before every call and hands it on, and `clear`, which sets lent scratch to zero; how the walk goes is private.
+#![tactic(auto)]
+
 ghost use Rattle.std.specs.Prelude.{◌≡◌, ◌≤◌, length};
 ghost use Rattle.model.specs.Shape.{need};
 ghost use Rattle.model.specs.Layout.{shape_of, sound};

@@ -5,6 +5,8 @@
 // no line is run and nothing is answered. A program has no status of its own. It writes to
 // standard error where something failed and nowhere else; the script `depot` gives the status by
 // that.
+#![tactic(auto)]
+
 ghost use Rattle.std.specs.Prelude.{◌≡◌, ◌-◌, ◌≤◌, length, take};
 ghost use Rattle.depot.specs.Reading.{step_of, Brings, Within};
 

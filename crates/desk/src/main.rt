@@ -1,5 +1,7 @@
 // The program: keeps stores in files. What it writes and saves is what `disk` makes of what it read; here is only reading and writing. A program has
 // no status of its own. It writes to standard error where something is to be said and nowhere else; the script `desk` gives the status by that.
+#![tactic(auto)]
+
 ghost use Rattle.std.specs.Prelude.{◌≤◌, length};
 
 mod files; // files.rt: files read, made, written and renamed

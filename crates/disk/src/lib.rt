@@ -1,4 +1,6 @@
 // What `desk` makes of the bytes of a file.
+#![tactic(auto)]
+
 ghost use Rattle.std.specs.Prelude.{◌≡◌, ◌+◌, ◌*◌, length};
 ghost use Rattle.reader.specs.Depot.{whole_size, job_on};
 ghost use Rattle.disk.specs.Bytes.{words_of};

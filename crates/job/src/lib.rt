@@ -1,4 +1,6 @@
 // The job: lines of text run against a store, their answers, and the tally.
+#![tactic(auto)]
+
 ghost use Rattle.std.specs.Prelude.{◌≡◌, true, ◌*◌, ◌≤◌, length};
 ghost use Rattle.model.specs.Shape.{faults_ever};
 ghost use Rattle.model.specs.Layout.{sound};

@@ -24,6 +24,8 @@
 //     R                          the report
 //
 // A numbered card is four digits and up to twelve hyphens. Card numbers go round at 1,024, days at 65,535, codes at 9,999.
+#![tactic(auto)]
+
 mod asks; // asks.rt: calls on one store
 mod desk; // desk.rt: the script: each line is done and told
 mod lays; // lays.rt: words and lengths laid by hand

@@ -1,4 +1,6 @@
 // One job on a store, and all that is written for it; the bench reader's is one on a fresh store.
+#![tactic(auto)]
+
 ghost use Rattle.std.specs.Prelude.{◌≡◌, ◌+◌, ◌≤◌, length};
 ghost use Rattle.model.specs.Shape.{need};
 ghost use Rattle.model.specs.Layout.{shape_of};

@@ -1,4 +1,6 @@
 // Faults by code: one report over up to eight stores, which stand one behind another in one run of words.
+#![tactic(auto)]
+
 ghost use Rattle.std.specs.Prelude.{◌≡◌, true, ◌≤◌, length};
 ghost use Rattle.model.specs.Report.{most_stores, pieces, run_sound, all_histories, report_text, report_call};
 ghost use Rattle.report.specs.Texts.{PutsReport};

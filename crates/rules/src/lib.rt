@@ -1,5 +1,7 @@
 // The code of a serial, the address rule, the load rules and the states of a table, below the store. The C host of the
 // reader calls `reader_code` and `reader_address` directly.
+#![tactic(auto)]
+
 ghost use Rattle.std.specs.Prelude.{◌≡◌, ◌+◌, ◌*◌, ◌<◌, ◌≤◌, ◌||◌, take, ◌==◌, nat_le};
 ghost use Rattle.rules.specs.Code.{code_step, code_of};
 ghost use Rattle.rules.specs.Table.{least, top, state_ok, address_of, splits, contracts, load_fits, high_maxp, high_p, low_maxp, low_p};

@@ -1,6 +1,8 @@
 // The store of cards: Open and the four calls, which take any input. Public to all above are these, and for an operation that knows its
 // words to be sound a call in two steps and the cards one after another. What `reads` and `checker` have of use above is handed on here,
 // so that code above names `store` alone.
+#![tactic(auto)]
+
 ghost use Rattle.std.specs.Prelude.{[]};
 ghost use Rattle.model.specs.Calls.{open_call, asked};
 ghost use Rattle.model.specs.Runs.{Act, outcome};

@@ -20,6 +20,8 @@
 //     V AT                  the value of word AT
 //
 // In a serial `_` stands for a zero byte, and the bytes behind a `|` are sent but not counted in the length.
+#![tactic(auto)]
+
 mod asks; // asks.rt: one call: what is asked, what is left, and how that is told
 mod chains; // chains.rt: the serials of a bucket, read from the words
 mod desk; // desk.rt: the script: each line is done and told

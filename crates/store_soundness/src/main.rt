@@ -1,5 +1,7 @@
 // Opens stores and damages them one word at a time, and prints what the checker says of each: 1 for sound, 0 for not.
 // The second program prints the same lines (`reference soundness`).
+#![tactic(auto)]
+
 ghost use Rattle.std.specs.Prelude.{◌≡◌, ◌<◌, ◌≤◌, length};
 
 use libc::STDOUT_FILENO;
