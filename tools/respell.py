@@ -66,8 +66,10 @@ class Names:
         for line in lines:
             found = imports(line)
             if found:
-                module, names, _ = found
+                module, names, short = found
                 (self.words if self.own(module) else self.foreign).update(names)
+                if short and not self.own(module):
+                    self.foreign.add(short)
                 continue
             bare = line.strip()
             if bare.startswith("--"):
@@ -112,6 +114,8 @@ def turn_tokens(text, names):
         before = text[: m.start()]
         if before.endswith("."):
             owner = re.search(r"([^\s()\[\]{};,\"`λ@=|]*)\.$", before)
+            if owner[1].split(".")[0] in names.foreign:
+                return word
             if not owner[1][:1].isupper():
                 return snake(word) if word in names.fields else word
         return names.table.get(word, word)

@@ -57,7 +57,7 @@ module _ {A : Type 0} where
   -- what is kept stands in the order that it had
   pub keep_order : (f : A → Bool) (l : List A) → Sublistᴰ (keep f l) l
   keep_order f [] = Sublistᴰ.slnil
-  keep_order f (x ∷ l) = by_cases (f x) (λ e. rw e (Sublistᴰ.cons_cons refl (keep_order f l))) (λ e. rw e (Sublistᴰ.cons (keep_order f l)))
+  keep_order f (x ∷ l) = by_cases (f x) (λ e. rw e (Sublistᴰ.cons-cons refl (keep_order f l))) (λ e. rw e (Sublistᴰ.cons (keep_order f l)))
 
   -- nothing is kept where f fails; where f goes with g, keeping g first changes nothing, and where against g, leaves nothing
   pub keep_none : (f g : A → Bool) (l : List A) → ((x : A) → g x ≡ true → f x ≡ false) → all g l ≡ true → keep f l ≡ []

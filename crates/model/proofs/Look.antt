@@ -84,14 +84,14 @@ module _ (s : Store) (r : Fair s) where
 -- each card of a store
 
 card_kept : (f : Card → Bool) (c : Card) (l : List Card) → Memᴰ c l → f c ≡ true → Memᴰ c (keep f l)
-card_kept f c [] m e = absurd (Memᴰ.not_nil m)
+card_kept f c [] m e = absurd (Memᴰ.not-nil m)
 card_kept f c (x ∷ l) m e =
     by_cases (f x)
     (λ k. rw k (elim (Memᴰ.cases_cons m) [ inl p ↦ Memᴰ.head p | inr q ↦ Memᴰ.tail (card_kept f c l q e) ]))
     (λ k. rw k (elim (Memᴰ.cases_cons m) [ inl p ↦ not_both e (ap f p ∙ k) | inr q ↦ card_kept f c l q e ]))
 
 only : (c : Card) (l : List Card) → Memᴰ c l → length l ≤ 1 → l ≡ c ∷ []
-only c [] m h = absurd (Memᴰ.not_nil m)
+only c [] m h = absurd (Memᴰ.not-nil m)
 only c (x ∷ []) m h = rw (Memᴰ.eq_of_singleton m)
 only c (x ∷ y ∷ l) m h = absurd (omega arith)
 
@@ -107,7 +107,7 @@ pub card_home : (s : Store) → Fair s → (b : ℕ) (c : Card) → Memᴰ c (bu
 card_home s r b c m = card_address s.maxp s.p b c (go (bucket s b) (r.addressed b) m)
   where
     go : (l : List Card) → all (good_card s.maxp s.p b) l ≡ true → Memᴰ c l → good_card s.maxp s.p b c ≡ true
-    go [] t m = absurd (Memᴰ.not_nil m)
+    go [] t m = absurd (Memᴰ.not-nil m)
     go (x ∷ l) t m =
         let h = both (good_card s.maxp s.p b x) (all (good_card s.maxp s.p b) l) t in
         elim (Memᴰ.cases_cons m) [ inl e ↦ rw e h.0 | inr k ↦ go l h.1 k ]
@@ -117,6 +117,6 @@ pub card_found : (s : Store) → Fair s → (b : ℕ) (c : Card) → Memᴰ c (b
 card_found s r b c m = card_look s r c (go s.buckets b m)
   where
     go : (bs : List (List Card)) (b : ℕ) → Memᴰ c (get_or bs b []) → Memᴰ c (join bs)
-    go [] b m = absurd (Memᴰ.not_nil m)
+    go [] b m = absurd (Memᴰ.not-nil m)
     go (x ∷ bs) zero m = Memᴰ.append_left (join bs) m
     go (x ∷ bs) (suc b) m = Memᴰ.append_right x (go bs b m)
