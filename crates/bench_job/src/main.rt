@@ -16,7 +16,7 @@ const UPPER: u32 = 4;
 const LOWER: u32 = 2;
 
 // A frame: its letter, the number in its head, and where its text begins and ends.
-#[derive(Drop)]
+#[derive(Clone, Copy)]
 struct Frame {
     kind: u8,
     number: u32,
@@ -24,7 +24,7 @@ struct Frame {
     end: usize,
 }
 
-#[derive(Drop)]
+#[derive(Clone, Copy)]
 struct Sums {
     numbers: u64,
     lines: u64,
@@ -33,7 +33,7 @@ struct Sums {
 }
 
 // The sums so far, and where the frames were left.
-#[derive(Drop)]
+#[derive(Clone, Copy)]
 struct Stop {
     at: usize,
     sums: Sums,

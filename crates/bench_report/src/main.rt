@@ -24,7 +24,7 @@ const HEAD: usize = 5;
 const TWICE: u32 = 2;
 
 // What the reports returned, added up, and the length of the last text.
-#[derive(Drop)]
+#[derive(Clone, Copy)]
 struct Sums {
     numbers: u64,
     reports: u64,

@@ -8,7 +8,7 @@ use reads::header::Header;
 use reads::{cells, header, keys, layout, serial};
 
 // Which chain a cell stands in: the free one of its part, that of a bucket, or a history.
-#[derive(Drop)]
+#[derive(Clone, Copy)]
 pub enum Chain {
     Free,
     Bucket(u32),

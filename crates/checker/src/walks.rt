@@ -12,7 +12,7 @@ use reads::header::Header;
 use reads::{cells, layout};
 
 // Whether a walk came to the end, how many cells it met, and which was the last.
-#[derive(Drop)]
+#[derive(Clone, Copy)]
 pub struct Walked {
     pub ok: bool,
     pub count: u32,
@@ -20,7 +20,7 @@ pub struct Walked {
 }
 
 // The same of several walks.
-#[derive(Drop)]
+#[derive(Clone, Copy)]
 pub struct Held {
     pub ok: bool,
     pub total: u32,

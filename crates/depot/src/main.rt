@@ -13,7 +13,7 @@ ghost use Rattle.depot.specs.Reading.{step_of, Brings, Within};
 use libc::{STDERR_FILENO, STDIN_FILENO, STDOUT_FILENO};
 
 // What one read brings.
-#[derive(Drop)]
+#[derive(Clone, Copy)]
 enum Step {
     More(usize),
     End,
@@ -21,7 +21,7 @@ enum Step {
 }
 
 // The input at the front of a buffer, to its end or to the buffer's; or that a read failed.
-#[derive(Drop)]
+#[derive(Clone, Copy)]
 enum Input {
     Whole(usize),
     Unread,

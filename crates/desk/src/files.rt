@@ -5,7 +5,7 @@ use crate::tell;
 use disk::names;
 
 // The bytes that were read, and whether all were.
-#[derive(Drop)]
+#[derive(Clone, Copy)]
 pub struct Got {
     pub len: usize,
     pub ok: bool,

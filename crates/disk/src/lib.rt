@@ -61,7 +61,7 @@ pub fn file_room() -> [u8; FILE]
 }
 
 // How a job ended, how long its text is, and whether the file has changed.
-#[derive(Drop)]
+#[derive(Clone, Copy)]
 pub struct Outcome {
     pub number: u32,
     pub len: usize,

@@ -13,7 +13,7 @@ use store::numbers;
 pub const TEXT: usize = 256;
 
 // What is told of a file: 0, and the limits, the bounds and the counts of a sound store; 3 where it is none.
-#[derive(Drop)]
+#[derive(Clone, Copy)]
 pub struct Seen {
     pub number: u32,
     pub cards: u32,
@@ -108,7 +108,7 @@ fn put_seen(out: &mut [u8], s: Seen) -> usize
 }
 
 // 0 for a sound store and 3 for any other file, and how long its text is.
-#[derive(Drop)]
+#[derive(Clone, Copy)]
 pub struct Looked {
     pub number: u32,
     pub len: usize,

@@ -26,7 +26,7 @@ fn length_for(cards: u32, faults: u32, upper: u32, lower: u32) -> usize
 }
 
 // Open's number, and the bytes of the file, none where the number is not 0.
-#[derive(Drop)]
+#[derive(Clone, Copy)]
 struct Opened {
     number: u32,
     len: usize,
@@ -58,7 +58,7 @@ fn fresh_for(cards: u32, faults: u32, upper: u32, lower: u32, file: &mut [u8]) -
 }
 
 // Open's number; the bytes of the file, none where it is not 0; the bytes of the text.
-#[derive(Drop)]
+#[derive(Clone, Copy)]
 pub struct Made {
     pub number: u32,
     pub len: usize,

@@ -10,7 +10,7 @@ use text::numbers::{is_number, number};
 use text::pieces::field_end;
 
 // What a line asks for: bad is one that is not well formed.
-#[derive(Drop)]
+#[derive(Clone, Copy)]
 pub enum Kind {
     Bad,
     Enter,
@@ -21,7 +21,7 @@ pub enum Kind {
 
 // What a line tells: its kind, its serial field as sixteen bytes and its length, and the numbers of a filing.
 // What its kind has not is 0.
-#[derive(Drop)]
+#[derive(Clone, Copy)]
 pub struct Parsed {
     pub kind: Kind,
     pub serial: [u8; 16],

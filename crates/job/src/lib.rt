@@ -20,7 +20,7 @@ use text::pieces;
 
 // How a job ended: its number, 0 if all lines were answered, the lines done and the bytes written.
 #[repr(C)]
-#[derive(Drop)]
+#[derive(Clone, Copy)]
 pub struct Done {
     pub number: u32,
     pub lines: u32,
@@ -28,7 +28,7 @@ pub struct Done {
 }
 
 // The same with the tally after the job.
-#[derive(Drop)]
+#[derive(Clone, Copy)]
 pub struct Ran {
     pub done: Done,
     pub tally: Tally,

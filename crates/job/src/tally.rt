@@ -7,7 +7,7 @@ ghost use Rattle.job.specs.Counts.{tally_of, entering, withdrawing, filing, coun
 use super::fields::Kind;
 
 #[repr(C)]
-#[derive(Drop)]
+#[derive(Clone, Copy)]
 pub struct Tally {
     pub entries: u64,
     pub withdrawals: u64,

@@ -15,7 +15,7 @@ use super::{answers, fields, tally};
 use store::{Plan, numbers};
 
 // Whether the answer fitted, where the text ends now, and the tally after the line.
-#[derive(Drop)]
+#[derive(Clone, Copy)]
 pub struct Turned {
     pub fits: bool,
     pub end: usize,

@@ -68,7 +68,7 @@ pub fn one(line: &[u8], words: &mut [u32]) -> u32 {
 }
 
 // A card, a day and a code, or the steps to the next ones.
-#[derive(Drop)]
+#[derive(Clone, Copy)]
 struct Filed {
     card: u32,
     day: u32,

@@ -5,7 +5,7 @@ use script::lines;
 
 // The words of the run, the lengths in the list, where the store that joined last begins, the bytes of scratch and of output, and
 // what these hold before a report.
-#[derive(Drop)]
+#[derive(Clone, Copy)]
 pub struct Desk {
     pub run: u32,
     pub listed: u32,

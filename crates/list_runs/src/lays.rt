@@ -39,7 +39,7 @@ pub fn copy(words: &mut [u32], from: u32, to: u32, count: u32) {
 }
 
 // Where a series of words begins and with which value, and the steps to the next.
-#[derive(Drop)]
+#[derive(Clone, Copy)]
 pub struct Series {
     pub at: u32,
     pub stride: u32,

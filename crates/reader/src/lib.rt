@@ -77,7 +77,7 @@ pub fn close(out: &mut [u8], at: usize, number: u32) -> usize
 }
 
 // A job's number, and the length of all that is written for it.
-#[derive(Drop)]
+#[derive(Clone, Copy)]
 pub struct Answered {
     pub number: u32,
     pub len: usize,

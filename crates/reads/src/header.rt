@@ -9,7 +9,7 @@ use crate::layout::Shape;
 
 // What a store keeps for life (format, limits, load bounds), where its parts begin, how many buckets it can have and how many words a card
 // cell has, and its state: read once.
-#[derive(Drop)]
+#[derive(Clone, Copy)]
 pub struct Header {
     pub format: u32,
     pub cards: u32,

@@ -116,7 +116,7 @@ pub const TO_DAY: usize = 1;
 pub const TO_CODE: usize = 2;
 
 // What a store keeps for life: format, limits and load bounds. The functions of it alone know the formats.
-#[derive(Drop)]
+#[derive(Clone, Copy)]
 pub struct Shape {
     pub format: u32,
     pub cards: u32,

@@ -33,7 +33,7 @@ pub const TO_LATEST: usize = 3;
 const TO_SEEN: usize = 4;
 
 // The cards and the entries of the stores so far.
-#[derive(Drop)]
+#[derive(Clone, Copy)]
 pub struct Totals {
     pub cards: u32,
     pub entries: u32,

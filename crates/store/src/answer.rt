@@ -4,7 +4,7 @@ ghost use Rattle.store.specs.Leaves.{refused_answer};
 
 // The number, the cards compared, the cards scanned by a split or a contraction, and the faults that the card has.
 #[repr(C)]
-#[derive(Drop)]
+#[derive(Clone, Copy)]
 pub struct Answer {
     pub number: u32,
     pub comparisons: u32,
@@ -26,7 +26,7 @@ pub fn refuse(number: u32) -> Answer
 
 // What an operation that writes words or bytes gives: its number, and how many it wrote.
 #[repr(C)]
-#[derive(Drop)]
+#[derive(Clone, Copy)]
 pub struct Wrote {
     pub number: u32,
     pub count: u32,

@@ -8,7 +8,7 @@ use reads::header::Header;
 use reads::{cells, layout};
 
 // A card's bucket and cell; past the last card the cell is 0.
-#[derive(Drop)]
+#[derive(Clone, Copy)]
 pub struct At {
     pub bucket: u32,
     pub cell: u32,

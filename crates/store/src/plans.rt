@@ -19,7 +19,7 @@ use reads::{cells, header, layout, serial};
 
 // A call's answer, where its change takes place, and the header that both go by. The places: the serial's bucket, the cell of its card (0 for
 // a new one) and the cell before it (0 for none); all are 0 where the number is not.
-#[derive(Drop)]
+#[derive(Clone, Copy)]
 pub struct Plan {
     pub number: u32,
     pub comparisons: u32,

@@ -12,7 +12,7 @@ use reads::{cells, header, keys, layout, serial};
 
 // What a search gives: the place is the card's, from 1, if held, else the chain's length; the cell is 0 if not held; prev is the cell
 // before it, 0 for none, or the chain's last if not held.
-#[derive(Drop)]
+#[derive(Clone, Copy)]
 pub struct Found {
     pub held: bool,
     pub place: u32,
@@ -21,7 +21,7 @@ pub struct Found {
 }
 
 // The same with the bucket whose chain was searched.
-#[derive(Drop)]
+#[derive(Clone, Copy)]
 pub struct Spot {
     pub bucket: u32,
     pub held: bool,

@@ -4,7 +4,7 @@ use script::{lines, sums};
 use store::Answer;
 
 // A call by the letter of its line. Only File has a day and a code.
-#[derive(Drop)]
+#[derive(Clone, Copy)]
 pub struct Call {
     pub letter: u8,
     pub serial: [u8; 16],
@@ -14,7 +14,7 @@ pub struct Call {
 }
 
 // The four numbers, and the checksums of words, room and scratch.
-#[derive(Drop)]
+#[derive(Clone, Copy)]
 pub struct Left {
     pub number: u32,
     pub comparisons: u32,

@@ -4,7 +4,7 @@ use crate::{asks, chains, numbered};
 use script::{lines, sums};
 
 // How many of the words, of scratch and of the room are lent.
-#[derive(Drop)]
+#[derive(Clone, Copy)]
 pub struct Sizes {
     pub words: usize,
     pub scratch: usize,
