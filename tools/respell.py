@@ -100,7 +100,8 @@ class Names:
             declared = [o for o in olds if o in self.places]
             plain = sorted(declared, key=lambda o: (not self.in_specs(o), "-" in o, not re.search("[A-Z]", o), o))
             for old in olds:
-                table[old] = new + "_lem" if len(plain) > 1 and old in plain[1:] else new
+                second = old in plain[1:] or (old in plain and new in self.foreign)
+                table[old] = new + "_lem" if second else new
         return table
 
 

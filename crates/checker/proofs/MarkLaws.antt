@@ -49,9 +49,9 @@ or_one zero h = or_zero_l 1
 or_one (suc zero) h = or_self 1
 or_one (suc (suc x)) h = absurd (omega arith)
 
-bit_or : (b m i : ℕ) → bit_of (bit_or b m) i ≡ bit_or (bit_of b i) (bit_of m i)
+bit_or_lem : (b m i : ℕ) → bit_of (bit_or b m) i ≡ bit_or (bit_of b i) (bit_of m i)
 unfolding bit_of
-bit_or b m i = ap (λ (n : ℕ). n % 2) (or_shr b m i) ∙ or_mod (b / 2 ^ i) (m / 2 ^ i) 1
+bit_or_lem b m i = ap (λ (n : ℕ). n % 2) (or_shr b m i) ∙ or_mod (b / 2 ^ i) (m / 2 ^ i) 1
 
 one_bit_same : (j : ℕ) → bit_of (2 ^ j) j ≡ 1
 unfolding bit_of
@@ -72,10 +72,10 @@ one_bit_other i j ne =
 
 -- setting a bit sets it, and leaves the others
 pub or_bit_same : (b j : ℕ) → bit_of (bit_or b (2 ^ j)) j ≡ 1
-or_bit_same b j = rw (bit_or b (2 ^ j) j, one_bit_same j) (or_one (bit_of b j) (bit_lt b j))
+or_bit_same b j = rw (bit_or_lem b (2 ^ j) j, one_bit_same j) (or_one (bit_of b j) (bit_lt b j))
 
 pub or_bit_other : (b i j : ℕ) → (i ≡ j → ⊥) → bit_of (bit_or b (2 ^ j)) i ≡ bit_of b i
-or_bit_other b i j ne = rw (bit_or b (2 ^ j) i, one_bit_other i j ne) (or_zero_r (bit_of b i))
+or_bit_other b i j ne = rw (bit_or_lem b (2 ^ j) i, one_bit_other i j ne) (or_zero_r (bit_of b i))
 
 module _ (bytes : List ℕ) (k : ℕ) where
   pub length_marked : length (marked_at bytes k) ≡ length bytes
