@@ -48,7 +48,9 @@ module _ (next : ℕ → ℕ) (reach base limit : ℕ) (marks : base + limit ≤
     where
       here : x ≡ i → count x (i ∷ seen) ≡ bit (mark_at (marked_at bytes (number_of base i)) (number_of base x))
       here e =
-          rw e (omega (arith, bit_same i i refl, s i a b, ap bit new, ap bit (marked_same bytes (number_of base i) (omega arith))))
+          let m : mark_at bytes (number_of base x) ≡ false = rw e new in
+          let n : mark_at (marked_at bytes (number_of base i)) (number_of base x) ≡ true = rw e (marked_same bytes (number_of base i) (omega arith)) in
+          omega (arith, bit_same x i e, s x x₁ xₗ, ap bit m, ap bit n)
 
   -- what a walk that accepts has met, with n cells behind it and l the last
   pub record Met (good : ℕ → Bool) (i n l : ℕ) (cells seen : List ℕ) (o : Out) : Type 0 where
