@@ -6,8 +6,7 @@ use native.Mathlib.Omega.{arith}
 use borrow.Author.Tests.{eq-eqb, ne_eqb}
 use Rattle.rules.proofs.Tests.{eq?}
 use Rattle.report.specs.Rows.{cards_after}
-use Rattle.report.proofs.rows.cards_after.Statement.{statement}
-use Rattle.report.proofs.rows.cards_after.Tie as tie
+use Rattle.report.proofs.rows.cards_after.Goals as goal
 
 -- the card that was counted last is not counted again
 once : (cards seen n : ℕ) → seen ≡ n → cards_after cards seen n ≡ cards
@@ -20,15 +19,12 @@ unfolding cards_after
 first cards seen n h = rw (ne_eqb _ _ h)
 
 -- where one is added, the card is not the one that was counted last
-returns_2 : tie.Need-returns-2
-returns_2 c =
-    let a = c.before.args in
+pub returns-else-seen-n : goal.returns-else-seen-n
+returns-else-seen-n c =
+    let a = c.args in
     ⊎_elim (λ e. omega (arith, e, once a.cards a.seen a.n e)) (λ h. omega (arith, first a.cards a.seen a.n h)) (eq? a.seen a.n)
 
-returns : tie.Need-returns
-returns c =
-    let a = c.before.args in
+pub returns-then-seen-n : goal.returns-then-seen-n
+returns-then-seen-n c =
+    let a = c.args in
     ⊎_elim (λ e. omega (arith, once a.cards a.seen a.n e)) (λ h. omega (arith, h, first a.cards a.seen a.n h)) (eq? a.seen a.n)
-
-pub cards_after_spec : {M : Type 1} → statement M
-cards_after_spec = tie.close (tie.spec (λ c. omega arith) returns returns_2)
