@@ -1,6 +1,6 @@
-//! Links target/staticlib/libcard_store.a, which `tools/staticlib card_store` writes. The archive is x86-64 code, so this crate
-//! is built for x86-64 alone; docs/RUST.md says how that is done on an Arm machine. The archive becomes a part of the built
-//! library, so that programs, tests and examples in the documentation have it without more.
+//! Links target/staticlib/libcard_store.a, which `tools/staticlib card_store` writes. The archive is x86-64 code, so this
+//! crate is built for x86-64 alone; docs/RUST.md says how that is done on an Arm machine. The archive becomes a part of the
+//! built library, so that programs, tests and examples in the documentation have it without more.
 use std::{env, path::Path};
 
 fn main() {
