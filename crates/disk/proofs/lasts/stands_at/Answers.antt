@@ -1,7 +1,7 @@
 -- `disk::lasts::stands_at` meets its contract. The loop's invariant: what is left is the same exactly if all is.
 use mathlib.Core.Path.{◌≡◌, refl, sym, ◌∙◌}
 use mathlib.Core.List.{List}
-use Prim.Native.Nat.{ℕ, ◌-◌}
+use Prim.Native.Nat.{ℕ}
 use native.Mathlib.Omega.{arith}
 use lib.ListN.{length, take, drop}
 use Rattle.disk.proofs.Keeping.{same_next, same_differ, same_all, same_short, cut_long, cut_at, cut_short}

@@ -2,7 +2,6 @@
 use lib.Seq.{length-take-le}
 use Rattle.disk.proofs.Slashes.{slash_here, slash_not, slash_end_lem}
 use mathlib.Core.Path.{refl, sym, ◌∙◌}
-use Prim.Native.Nat.{◌-◌}
 use native.Mathlib.Omega.{arith}
 use Rattle.disk.proofs.names.folder_end.Goals.{then-byte-eq47, else-byte-eq47}
 use Rattle.disk.proofs.names.folder_end.Goals as goal
@@ -27,7 +26,7 @@ loop-i-preserved c =
     let j = c.loop-i in
     let a = c.args in
     elim c.if-byte-eq47.branch [
-      then-byte-eq47 w ↦ (omega arith, omega arith, rw w.end-is (slash_here a.path.now j.end j.i (omega arith) (sym c.byte.ensures ∙ w.if-byte-eq47.true)) ∙ j.invariant.2)
+      | then-byte-eq47 w ↦ (omega arith, omega arith, rw w.end-is (slash_here a.path.now j.end j.i (omega arith) (sym c.byte.ensures ∙ w.if-byte-eq47.true)) ∙ j.invariant.2)
       | else-byte-eq47 w ↦ (omega arith, omega arith, rw w.end-is (slash_not a.path.now j.end j.i (omega arith) (λ e. w.if-byte-eq47.false (c.byte.ensures ∙ e))) ∙ j.invariant.2)
     ]
 

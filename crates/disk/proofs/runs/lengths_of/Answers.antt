@@ -1,7 +1,7 @@
 -- `disk::runs::lengths_of` meets its contract. The loop's invariant: the lengths so far, with those of the sizes that are left, are all lengths.
 use mathlib.Core.Path.{refl, ap}
 use mathlib.Core.List.{map}
-use Prim.Native.Nat.{◌-◌, ◌/◌}
+use Prim.Native.Nat.{◌/◌}
 use native.Mathlib.Omega.{arith}
 use lib.ListN.{length-set}
 use Rattle.disk.specs.Report.{words_in}

@@ -1,11 +1,10 @@
 -- `disk::runs::sizes_ok` meets its contract. The loop's invariant: of what is left, and the sum so far, the test is that of all.
 use mathlib.Core.Path.{◌≡◌, refl, sym, ◌∙◌}
-use Prim.Native.Nat.{◌-◌}
 use native.Mathlib.Omega.{arith}
 use Rattle.disk.specs.Desk.{sized}
 use Rattle.disk.specs.Report.{sizes_ok}
 use Rattle.disk.proofs.Lengths.{most_words_lem, sized_is}
-use Rattle.disk.proofs.Summing.{sum, all_next, all_stop, sum_next, sizes_end}
+use Rattle.disk.proofs.Summing.{all_next, all_stop, sum_next, sizes_end}
 use Rattle.disk.proofs.runs.sizes_ok.Goals as goal
 
 pub loop-i-init : goal.loop-i-init

@@ -1,6 +1,5 @@
 -- `disk::words::differ` meets its contract. The loop's invariant: what is left is the same exactly if all is.
 use mathlib.Core.Path.{refl, sym, ◌∙◌}
-use Prim.Native.Nat.{◌-◌}
 use native.Mathlib.Omega.{arith}
 use Rattle.disk.proofs.Bytes.{same_on, same_stop, same_end}
 use Rattle.disk.proofs.words.differ.Goals as goal

@@ -1,7 +1,7 @@
 -- `disk::words::read` meets its contract. The loop's invariant: the words so far, with those of the bytes that are left, are all words; and every byte is below 256, so the way back holds.
 use lib.ListN.{length-set}
 use mathlib.Core.Path.{refl, ap, ◌∙◌}
-use Prim.Native.Nat.{ℕ, ◌-◌, ◌<◌}
+use Prim.Native.Nat.{ℕ, ◌<◌}
 use lib.ListN.{length}
 use native.Mathlib.Omega.{arith}
 use Rattle.disk.specs.Bytes.{words_of, file_of}

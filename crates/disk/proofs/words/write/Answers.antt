@@ -2,7 +2,7 @@
 use lib.Seq.{sets, length-sets}
 use Rattle.disk.specs.Bytes.{four}
 use mathlib.Core.Path.{◌≡◌, refl, ap, ◌∙◌}
-use Prim.Native.Nat.{ℕ, ◌-◌, ◌<◌}
+use Prim.Native.Nat.{ℕ, ◌<◌}
 use native.Mathlib.Omega.{arith}
 use Rattle.disk.specs.Bytes.{words_of, file_of}
 use Rattle.model.proofs.Lists.{Every, at_every}
