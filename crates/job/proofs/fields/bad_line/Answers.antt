@@ -2,12 +2,8 @@
 use mathlib.Core.Path.{refl}
 use Rattle.model.specs.Job.{padded}
 use Rattle.job.specs.Told.{kind_in, serial_in, day_in, code_in}
-use Rattle.job.proofs.fields.bad_line.Statement.{statement}
-use Rattle.job.proofs.fields.bad_line.Tie as tie
+use Rattle.job.proofs.fields.bad_line.Goals as goal
 
-returns : tie.Need-returns
+pub returns : goal.returns
 unfolding kind_in padded serial_in day_in code_in
 returns c = record { kind_is = refl; serial_is = refl; len_is = refl; day_is = refl; code_is = refl }
-
-pub bad_line_spec : {M : Type 1} → statement M
-bad_line_spec = tie.close (tie.spec returns)
