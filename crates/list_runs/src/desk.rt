@@ -2,6 +2,7 @@
 use crate::lays::Series;
 use crate::{asks, lays, numbered, reports};
 use script::lines;
+use std::io;
 
 // The words of the run, the lengths in the list, where the store that joined last begins, the bytes of scratch and of output, and
 // what these hold before a report.
@@ -32,7 +33,13 @@ fn length_for(cards: u32, faults: u32) -> u32 {
     288 + 9 * (cards % 1025) + 3 * (faults % 2049)
 }
 
-fn open(line: &[u8], words: &mut [u32], lengths: &mut [u32], d: Desk) -> Desk {
+fn open(
+    rt: &impl Print,
+    line: &[u8],
+    words: &mut [u32],
+    lengths: &mut [u32],
+    d: Desk,
+) -> io::Result<Desk> {
     let cards = lines::number_at(line, 1);
     let faults = lines::number_at(line, 2);
     let upper = lines::number_at(line, 3);
@@ -40,9 +47,12 @@ fn open(line: &[u8], words: &mut [u32], lengths: &mut [u32], d: Desk) -> Desk {
     let len = length_for(cards, faults);
     let b = lines::least(numbered::next_word(d.run, len) as usize, words.len());
     let a = lines::least(d.run as usize, b);
-    lines::put(b":");
-    lines::put_next(store::open(&mut words[a..b], cards, faults, upper, lower));
-    joined(lengths, len, d)
+    lines::put(rt, b":")?;
+    lines::put_next(
+        rt,
+        store::open(&mut words[a..b], cards, faults, upper, lower),
+    )?;
+    Ok(joined(lengths, len, d))
 }
 
 fn copy(line: &[u8], words: &mut [u32], lengths: &mut [u32], d: Desk) -> Desk {
@@ -110,102 +120,119 @@ fn sized(line: &[u8], mut d: Desk) -> Desk {
 // ---- lines that call
 
 // A call on the store that joined last.
-fn call(line: &[u8], words: &mut [u32], d: Desk) {
+fn call(rt: &impl Print, line: &[u8], words: &mut [u32], d: Desk) -> io::Result<()> {
     let b = lines::least(d.run as usize, words.len());
     let a = lines::least(d.last as usize, b);
-    lines::put(b":");
-    lines::put_next(asks::one(line, &mut words[a..b]));
+    lines::put(rt, b":")?;
+    lines::put_next(rt, asks::one(line, &mut words[a..b]))
 }
 
-fn calls(line: &[u8], words: &mut [u32], d: Desk) {
+fn calls(rt: &impl Print, line: &[u8], words: &mut [u32], d: Desk) -> io::Result<()> {
     let b = lines::least(d.run as usize, words.len());
     let a = lines::least(d.last as usize, b);
-    lines::put(b":");
-    lines::put_next(asks::many(line, &mut words[a..b]));
+    lines::put(rt, b":")?;
+    lines::put_next(rt, asks::many(line, &mut words[a..b]))
 }
 
-fn report(words: &[u32], lengths: &[u32], scratch: &mut [u8], out: &mut [u8], d: Desk) {
+fn report(
+    rt: &impl Print,
+    words: &[u32],
+    lengths: &[u32],
+    scratch: &mut [u8],
+    out: &mut [u8],
+    d: Desk,
+) -> io::Result<()> {
     let a = lines::least(d.run as usize, words.len());
     let b = lines::least(d.listed as usize, lengths.len());
     let c = lines::least(d.scratch as usize, scratch.len());
     let e = lines::least(d.out as usize, out.len());
     reports::make(
+        rt,
         &words[..a],
         &lengths[..b],
         &mut scratch[..c],
         &mut out[..e],
         d.from,
         d.step,
-    );
+    )
 }
 
 // ---- every line
 
 // A line that lays a run; any other leaves it.
-fn laid(line: &[u8], words: &mut [u32], lengths: &mut [u32], d: Desk) -> Desk {
+fn laid(
+    rt: &impl Print,
+    line: &[u8],
+    words: &mut [u32],
+    lengths: &mut [u32],
+    d: Desk,
+) -> io::Result<Desk> {
     match lines::letter(line) {
         b'N' => {
-            return new_run(d);
+            return Ok(new_run(d));
         }
         b'O' => {
-            return open(line, words, lengths, d);
+            return open(rt, line, words, lengths, d);
         }
         b'C' => {
-            return copy(line, words, lengths, d);
+            return Ok(copy(line, words, lengths, d));
         }
         b'Z' => {
-            return resize_run(line, words, d);
+            return Ok(resize_run(line, words, d));
         }
         b'M' => {
-            return resize_list(line, lengths, d);
+            return Ok(resize_list(line, lengths, d));
         }
         b'P' => patch(line, words),
         b'L' => set_length(line, lengths),
         _ => {}
     }
-    d
+    Ok(d)
 }
 
 // A line that calls; any other is only echoed.
 fn called(
+    rt: &impl Print,
     line: &[u8],
     words: &mut [u32],
     lengths: &[u32],
     scratch: &mut [u8],
     out: &mut [u8],
     d: Desk,
-) {
+) -> io::Result<()> {
     match lines::letter(line) {
-        b'E' | b'F' | b'W' => call(line, words, d),
-        b'e' | b'f' | b'w' => calls(line, words, d),
-        b'R' => report(words, lengths, scratch, out, d),
-        _ => {}
+        b'E' | b'F' | b'W' => call(rt, line, words, d),
+        b'e' | b'f' | b'w' => calls(rt, line, words, d),
+        b'R' => report(rt, words, lengths, scratch, out, d),
+        _ => Ok(()),
     }
 }
 
 // One line, with its echo.
 fn turn(
+    rt: &impl Print,
     line: &[u8],
     words: &mut [u32],
     lengths: &mut [u32],
     scratch: &mut [u8],
     out: &mut [u8],
     d: Desk,
-) -> Desk {
-    lines::put(line);
-    let e = sized(line, laid(line, words, lengths, d));
-    called(line, words, lengths, scratch, out, e);
-    lines::put(b"\n");
-    e
+) -> io::Result<Desk> {
+    lines::put(rt, line)?;
+    let e = sized(line, laid(rt, line, words, lengths, d)?);
+    called(rt, line, words, lengths, scratch, out, e)?;
+    lines::put(rt, b"\n")?;
+    Ok(e)
 }
 
 pub fn run(
+    rt: &impl Print,
     script: &[u8],
     words: &mut [u32],
     lengths: &mut [u32],
     scratch: &mut [u8],
     out: &mut [u8],
-) {
+) -> io::Result<()> {
     let mut d = Desk {
         run: 0,
         listed: 0,
@@ -219,7 +246,8 @@ pub fn run(
     while at < script.len() {
         let end = lines::line_end(script, at);
         let line = &script[at..end];
-        d = turn(line, words, lengths, scratch, out, d);
+        d = turn(rt, line, words, lengths, scratch, out, d)?;
         at = lines::past(end, script.len());
     }
+    Ok(())
 }

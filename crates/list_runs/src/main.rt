@@ -32,19 +32,23 @@ mod lays; // lays.rt: words and lengths laid by hand
 mod numbered; // numbered.rt: cards by number, and days and codes by steps
 mod reports; // reports.rt: one report, and what it left
 
+use script::input;
+use std::io;
+
 // A script of up to 65,536 bytes; words for eight stores of the largest size and some more, and output for a line of each code.
-fn main() {
-    let mut buffer = io::large_buffer();
-    let n = io::read_full(libc::STDIN_FILENO, &mut buffer);
+fn main(rt: HostRuntime) -> io::Result<()> {
+    let mut buffer = [0u8; 65536];
+    let n = input::read_full(&rt, &mut buffer)?;
     let mut words = [0u32; 125200];
     let mut lengths = [0u32; 16];
     let mut scratch = [0u8; 1000];
     let mut out = [0u8; 300000];
     desk::run(
+        &rt,
         &buffer[..n],
         &mut words,
         &mut lengths,
         &mut scratch,
         &mut out,
-    );
+    )
 }

@@ -1,5 +1,6 @@
 // One report, and what it left.
 use script::{lines, sums};
+use std::io;
 use store::Wrote;
 
 // The longest text that is printed, in bytes.
@@ -24,20 +25,21 @@ fn fill(bytes: &mut [u8], from: u32, step: u32) {
     }
 }
 
-fn put_sum(name: &[u8], sum: u32) {
-    lines::put(name);
-    lines::put_next(sum);
+fn put_sum(rt: &impl Print, name: &[u8], sum: u32) -> io::Result<()> {
+    lines::put(rt, name)?;
+    lines::put_next(rt, sum)
 }
 
 // A text that is short.
-fn put_text(out: &[u8], count: u32) {
+fn put_text(rt: &impl Print, out: &[u8], count: u32) -> io::Result<()> {
     if 0 < count {
         if count <= SHORT {
             let n = lines::least(count as usize, out.len());
-            lines::put(b"\n");
-            lines::put(&out[..n]);
+            lines::put(rt, b"\n")?;
+            lines::put(rt, &out[..n])?;
         }
     }
+    Ok(())
 }
 
 // Scratch and output hold bytes from one on by steps, then the report is made.
@@ -55,25 +57,33 @@ fn made(
 }
 
 // What it gave and left, and its text.
-fn tell(words: &[u32], lengths: &[u32], scratch: &[u8], out: &[u8], r: Wrote) {
-    lines::put(b":");
-    lines::put_next(r.number);
-    lines::put_next(r.count);
-    put_sum(b" out", sums::of_bytes(out));
-    put_sum(b" scratch", sums::of_bytes(scratch));
-    put_sum(b" words", sums::of_words(words));
-    put_sum(b" lengths", sums::of_words(lengths));
-    put_text(out, r.count);
+fn tell(
+    rt: &impl Print,
+    words: &[u32],
+    lengths: &[u32],
+    scratch: &[u8],
+    out: &[u8],
+    r: Wrote,
+) -> io::Result<()> {
+    lines::put(rt, b":")?;
+    lines::put_next(rt, r.number)?;
+    lines::put_next(rt, r.count)?;
+    put_sum(rt, b" out", sums::of_bytes(out))?;
+    put_sum(rt, b" scratch", sums::of_bytes(scratch))?;
+    put_sum(rt, b" words", sums::of_words(words))?;
+    put_sum(rt, b" lengths", sums::of_words(lengths))?;
+    put_text(rt, out, r.count)
 }
 
 pub fn make(
+    rt: &impl Print,
     words: &[u32],
     lengths: &[u32],
     scratch: &mut [u8],
     out: &mut [u8],
     from: u32,
     step: u32,
-) {
+) -> io::Result<()> {
     let r = made(words, lengths, scratch, out, from, step);
-    tell(words, lengths, scratch, out, r);
+    tell(rt, words, lengths, scratch, out, r)
 }

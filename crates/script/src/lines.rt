@@ -1,27 +1,28 @@
 // Lines, their fields, and printing.
 ghost use Rattle.std.specs.Prelude.{◌≡◌, ◌+◌, ◌≤◌, min, length};
 
-use libc::STDOUT_FILENO;
+use std::io;
 
-pub fn put(bytes: &[u8]) {
-    io::write_all(STDOUT_FILENO, bytes);
+pub fn put(rt: &impl Print, bytes: &[u8]) -> io::Result<()> {
+    rt.write_all(bytes)
 }
 
-pub fn put_number(n: u32) {
-    io::print_decimal(STDOUT_FILENO, n as u64);
+pub fn put_number(rt: &impl Print, n: u32) -> io::Result<()> {
+    rt.print(n)
 }
 
 // A number behind a space.
-pub fn put_next(n: u32) {
-    put(b" ");
-    put_number(n);
+pub fn put_next(rt: &impl Print, n: u32) -> io::Result<()> {
+    put(rt, b" ")?;
+    put_number(rt, n)
 }
 
 // A byte, unless it is zero.
-pub fn put_byte(b: u8) {
+pub fn put_byte(rt: &impl Print, b: u8) -> io::Result<()> {
     if b != 0 {
-        put(&[b]);
+        put(rt, &[b])?;
     }
+    Ok(())
 }
 
 // How many bytes stand before the first `mark`, or all of them where there is none.

@@ -1,6 +1,7 @@
 // One call: what is asked, what is left, and how that is told.
 use crate::fills;
 use script::{lines, sums};
+use std::io;
 use store::Answer;
 
 // A call by the letter of its line. Only File has a day and a code.
@@ -62,24 +63,24 @@ fn has_room(letter: u8) -> bool {
     letter != b'F'
 }
 
-fn tell_sums(left: Left, room: bool) {
-    lines::put(b" words");
-    lines::put_next(left.words);
+fn tell_sums(rt: &impl Print, left: Left, room: bool) -> io::Result<()> {
+    lines::put(rt, b" words")?;
+    lines::put_next(rt, left.words)?;
     if room {
-        lines::put(b" room");
-        lines::put_next(left.room);
+        lines::put(rt, b" room")?;
+        lines::put_next(rt, left.room)?;
     }
-    lines::put(b" scratch");
-    lines::put_next(left.scratch);
+    lines::put(rt, b" scratch")?;
+    lines::put_next(rt, left.scratch)
 }
 
-pub fn tell(left: Left, letter: u8) {
-    lines::put(b":");
-    lines::put_next(left.number);
-    lines::put_next(left.comparisons);
-    lines::put_next(left.scanned);
-    lines::put_next(left.faults);
-    tell_sums(left, has_room(letter));
+pub fn tell(rt: &impl Print, left: Left, letter: u8) -> io::Result<()> {
+    lines::put(rt, b":")?;
+    lines::put_next(rt, left.number)?;
+    lines::put_next(rt, left.comparisons)?;
+    lines::put_next(rt, left.scanned)?;
+    lines::put_next(rt, left.faults)?;
+    tell_sums(rt, left, has_room(letter))
 }
 
 // All of it in one checksum, with that of the calls before.

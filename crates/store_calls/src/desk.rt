@@ -2,6 +2,7 @@
 use crate::asks::Call;
 use crate::{asks, chains, numbered};
 use script::{lines, sums};
+use std::io;
 
 // How many of the words, of scratch and of the room are lent.
 #[derive(Clone, Copy)]
@@ -59,29 +60,50 @@ fn call_of(line: &[u8]) -> Call {
     }
 }
 
-fn one_call(line: &[u8], words: &mut [u32], scratch: &mut [u8], room: &mut [u32]) {
+fn one_call(
+    rt: &impl Print,
+    line: &[u8],
+    words: &mut [u32],
+    scratch: &mut [u8],
+    room: &mut [u32],
+) -> io::Result<()> {
     let c = call_of(line);
-    asks::tell(asks::ask(words, scratch, room, c), c.letter);
+    asks::tell(rt, asks::ask(words, scratch, room, c), c.letter)
 }
 
 // A line of many calls.
-fn many_calls(line: &[u8], words: &mut [u32], scratch: &mut [u8], room: &mut [u32]) {
+fn many_calls(
+    rt: &impl Print,
+    line: &[u8],
+    words: &mut [u32],
+    scratch: &mut [u8],
+    room: &mut [u32],
+) -> io::Result<()> {
     let count = lines::number(lines::second(line));
     let from = lines::number(lines::third(line));
     let step = lines::number(lines::fourth(line));
-    numbered::many(words, scratch, room, lines::letter(line), count, from, step);
+    numbered::many(
+        rt,
+        words,
+        scratch,
+        room,
+        lines::letter(line),
+        count,
+        from,
+        step,
+    )
 }
 
 // The other lines.
-fn open(line: &[u8], words: &mut [u32]) {
+fn open(rt: &impl Print, line: &[u8], words: &mut [u32]) -> io::Result<()> {
     let cards = lines::number_at(line, 1);
     let faults = lines::number_at(line, 2);
     let upper = lines::number_at(line, 3);
     let lower = lines::number_at(line, 4);
-    lines::put(b":");
-    lines::put_next(store::open(words, cards, faults, upper, lower));
-    lines::put(b" words");
-    lines::put_next(sums::of_words(words));
+    lines::put(rt, b":")?;
+    lines::put_next(rt, store::open(words, cards, faults, upper, lower))?;
+    lines::put(rt, b" words")?;
+    lines::put_next(rt, sums::of_words(words))
 }
 
 fn put_word(line: &[u8], words: &mut [u32]) {
@@ -91,10 +113,10 @@ fn put_word(line: &[u8], words: &mut [u32]) {
     }
 }
 
-fn tell_word(line: &[u8], words: &[u32]) {
+fn tell_word(rt: &impl Print, line: &[u8], words: &[u32]) -> io::Result<()> {
     let at = lines::number(lines::second(line)) as usize;
-    lines::put(b":");
-    lines::put_next(chains::word(words, at));
+    lines::put(rt, b":")?;
+    lines::put_next(rt, chains::word(words, at))
 }
 
 // Show for a serial of one byte, whatever it is, and for one of the greatest length.
@@ -104,7 +126,14 @@ fn one_byte(b: u32) -> [u8; 16] {
     out
 }
 
-fn shown(words: &mut [u32], scratch: &mut [u8], room: &mut [u32], serial: [u8; 16], len: usize) {
+fn shown(
+    rt: &impl Print,
+    words: &mut [u32],
+    scratch: &mut [u8],
+    room: &mut [u32],
+    serial: [u8; 16],
+    len: usize,
+) -> io::Result<()> {
     let c = Call {
         letter: b'S',
         serial,
@@ -113,41 +142,61 @@ fn shown(words: &mut [u32], scratch: &mut [u8], room: &mut [u32], serial: [u8; 1
         code: 0,
     };
     let left = asks::ask(words, scratch, room, c);
-    lines::put_number(left.number);
+    lines::put_number(rt, left.number)
 }
 
-fn show_bytes(words: &mut [u32], scratch: &mut [u8], room: &mut [u32]) {
+fn show_bytes(
+    rt: &impl Print,
+    words: &mut [u32],
+    scratch: &mut [u8],
+    room: &mut [u32],
+) -> io::Result<()> {
     let mut b: u32 = 0;
     while b < 256 {
-        shown(words, scratch, room, one_byte(b), 1);
+        shown(rt, words, scratch, room, one_byte(b), 1)?;
         b += 1;
     }
+    Ok(())
 }
 
-fn show_odd(words: &mut [u32], scratch: &mut [u8], room: &mut [u32]) {
-    lines::put(b": ");
-    show_bytes(words, scratch, room);
-    lines::put(b" ");
-    shown(words, scratch, room, [55u8; 16], 18446744073709551615);
+fn show_odd(
+    rt: &impl Print,
+    words: &mut [u32],
+    scratch: &mut [u8],
+    room: &mut [u32],
+) -> io::Result<()> {
+    lines::put(rt, b": ")?;
+    show_bytes(rt, words, scratch, room)?;
+    lines::put(rt, b" ")?;
+    shown(rt, words, scratch, room, [55u8; 16], 18446744073709551615)
 }
 
 // A line that reads or sets the words alone.
-fn words_line(line: &[u8], words: &mut [u32]) {
+fn words_line(rt: &impl Print, line: &[u8], words: &mut [u32]) -> io::Result<()> {
     match lines::letter(line) {
-        b'O' => open(line, words),
-        b'P' => put_word(line, words),
-        b'V' => tell_word(line, words),
-        b'K' => chains::put_chain(words, lines::number(lines::second(line))),
-        _ => {}
+        b'O' => open(rt, line, words),
+        b'P' => {
+            put_word(line, words);
+            Ok(())
+        }
+        b'V' => tell_word(rt, line, words),
+        b'K' => chains::put_chain(rt, words, lines::number(lines::second(line))),
+        _ => Ok(()),
     }
 }
 
-fn do_line(line: &[u8], words: &mut [u32], scratch: &mut [u8], room: &mut [u32]) {
+fn do_line(
+    rt: &impl Print,
+    line: &[u8],
+    words: &mut [u32],
+    scratch: &mut [u8],
+    room: &mut [u32],
+) -> io::Result<()> {
     match lines::letter(line) {
-        b'E' | b'F' | b'S' | b'W' => one_call(line, words, scratch, room),
-        b'e' | b'f' | b's' | b'w' | b'g' | b'c' => many_calls(line, words, scratch, room),
-        b'A' => show_odd(words, scratch, room),
-        _ => words_line(line, words),
+        b'E' | b'F' | b'S' | b'W' => one_call(rt, line, words, scratch, room),
+        b'e' | b'f' | b's' | b'w' | b'g' | b'c' => many_calls(rt, line, words, scratch, room),
+        b'A' => show_odd(rt, words, scratch, room),
+        _ => words_line(rt, line, words),
     }
 }
 
@@ -174,16 +223,29 @@ fn sizes_at(line: &[u8], now: Sizes) -> Sizes {
 }
 
 // One line, with its echo.
-fn turn(line: &[u8], words: &mut [u32], scratch: &mut [u8], room: &mut [u32], lent: Sizes) {
+fn turn(
+    rt: &impl Print,
+    line: &[u8],
+    words: &mut [u32],
+    scratch: &mut [u8],
+    room: &mut [u32],
+    lent: Sizes,
+) -> io::Result<()> {
     let a = lines::least(lent.words, words.len());
     let b = lines::least(lent.scratch, scratch.len());
     let c = lines::least(lent.room, room.len());
-    lines::put(line);
-    do_line(line, &mut words[..a], &mut scratch[..b], &mut room[..c]);
-    lines::put(b"\n");
+    lines::put(rt, line)?;
+    do_line(rt, line, &mut words[..a], &mut scratch[..b], &mut room[..c])?;
+    lines::put(rt, b"\n")
 }
 
-pub fn run(script: &[u8], words: &mut [u32], scratch: &mut [u8], room: &mut [u32]) {
+pub fn run(
+    rt: &impl Print,
+    script: &[u8],
+    words: &mut [u32],
+    scratch: &mut [u8],
+    room: &mut [u32],
+) -> io::Result<()> {
     let mut lent = Sizes {
         words: 0,
         scratch: 0,
@@ -194,7 +256,8 @@ pub fn run(script: &[u8], words: &mut [u32], scratch: &mut [u8], room: &mut [u32
         let end = lines::line_end(script, at);
         let line = &script[at..end];
         lent = sizes_at(line, lent);
-        turn(line, words, scratch, room, lent);
+        turn(rt, line, words, scratch, room, lent)?;
         at = lines::past(end, script.len());
     }
+    Ok(())
 }

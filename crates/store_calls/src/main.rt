@@ -28,12 +28,15 @@ mod desk; // desk.rt: the script: each line is done and told
 mod fills; // fills.rt: what scratch and room are filled with before a call
 mod numbered; // numbered.rt: serials by number, and many calls for them
 
+use script::input;
+use std::io;
+
 // A script of up to 65,536 bytes, and words for the largest store.
-fn main() {
-    let mut buffer = io::large_buffer();
-    let n = io::read_full(libc::STDIN_FILENO, &mut buffer);
+fn main(rt: HostRuntime) -> io::Result<()> {
+    let mut buffer = [0u8; 65536];
+    let n = input::read_full(&rt, &mut buffer)?;
     let mut words = [4294967295u32; 15648];
     let mut scratch = [0u8; 1000];
     let mut room = [0u32; 64];
-    desk::run(&buffer[..n], &mut words, &mut scratch, &mut room);
+    desk::run(&rt, &buffer[..n], &mut words, &mut scratch, &mut room)
 }

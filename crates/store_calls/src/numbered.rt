@@ -2,6 +2,7 @@
 use crate::asks::Call;
 use crate::{asks, chains};
 use script::lines;
+use std::io;
 
 // `AZ` for an even number and `B9` for an odd one: their codes are equal, 33 times the first byte and the second.
 fn high(n: u32) -> u8 {
@@ -94,48 +95,64 @@ fn next(n: u32, step: u32) -> u32 {
 }
 
 // A line for the calls so far: maxp, p, cards and faults held, and the checksum.
-fn report(words: &[u32], calls: u32, sum: u32) {
-    lines::put(b"\n");
-    lines::put_number(calls);
-    lines::put(b" calls:");
-    lines::put_next(chains::word(words, 3));
-    lines::put_next(chains::word(words, 4));
-    lines::put_next(chains::word(words, 5));
-    lines::put_next(chains::word(words, 6));
-    lines::put(b" sum");
-    lines::put_next(sum);
+fn report(rt: &impl Print, words: &[u32], calls: u32, sum: u32) -> io::Result<()> {
+    lines::put(rt, b"\n")?;
+    lines::put_number(rt, calls)?;
+    lines::put(rt, b" calls:")?;
+    lines::put_next(rt, chains::word(words, 3))?;
+    lines::put_next(rt, chains::word(words, 4))?;
+    lines::put_next(rt, chains::word(words, 5))?;
+    lines::put_next(rt, chains::word(words, 6))?;
+    lines::put(rt, b" sum")?;
+    lines::put_next(rt, sum)
 }
 
 // After each 64 calls, and after the last one.
-fn report_now(words: &[u32], calls: u32, count: u32, sum: u32) {
+fn report_now(rt: &impl Print, words: &[u32], calls: u32, count: u32, sum: u32) -> io::Result<()> {
     if calls == count {
-        report(words, calls, sum);
-        return;
+        return report(rt, words, calls, sum);
     }
     if calls % 64 == 0 {
-        report(words, calls, sum);
+        report(rt, words, calls, sum)?;
     }
+    Ok(())
 }
 
 // After a call that changed the number of buckets, and with it p, and after the last one.
-fn report_change(words: &[u32], calls: u32, count: u32, sum: u32, p: u32) {
+fn report_change(
+    rt: &impl Print,
+    words: &[u32],
+    calls: u32,
+    count: u32,
+    sum: u32,
+    p: u32,
+) -> io::Result<()> {
     if calls == count {
-        report(words, calls, sum);
-        return;
+        return report(rt, words, calls, sum);
     }
     if chains::word(words, 4) != p {
-        report(words, calls, sum);
+        report(rt, words, calls, sum)?;
     }
+    Ok(())
 }
 
-fn report_turn(words: &[u32], letter: u8, calls: u32, count: u32, sum: u32, p: u32) {
+fn report_turn(
+    rt: &impl Print,
+    words: &[u32],
+    letter: u8,
+    calls: u32,
+    count: u32,
+    sum: u32,
+    p: u32,
+) -> io::Result<()> {
     match letter {
-        b'g' | b'c' => report_change(words, calls, count, sum, p),
-        _ => report_now(words, calls, count, sum),
+        b'g' | b'c' => report_change(rt, words, calls, count, sum, p),
+        _ => report_now(rt, words, calls, count, sum),
     }
 }
 
 pub fn many(
+    rt: &impl Print,
     words: &mut [u32],
     scratch: &mut [u8],
     room: &mut [u32],
@@ -143,7 +160,7 @@ pub fn many(
     count: u32,
     from: u32,
     step: u32,
-) {
+) -> io::Result<()> {
     let mut n = from;
     let mut sum: u32 = 1;
     let mut k: u32 = 0;
@@ -152,6 +169,7 @@ pub fn many(
         sum = asks::fold(sum, asks::ask(words, scratch, room, call(letter, n, k)));
         n = next(n, step);
         k += 1;
-        report_turn(words, letter, k, count, sum, p);
+        report_turn(rt, words, letter, k, count, sum, p)?;
     }
+    Ok(())
 }

@@ -4,183 +4,193 @@
 
 ghost use Rattle.std.specs.Prelude.{◌≡◌, ◌<◌, ◌≤◌, length};
 
-use libc::STDOUT_FILENO;
+use std::io;
 use std::num::{wrapping_add_u32, wrapping_sub_u32};
 
-fn text(bytes: &[u8]) {
-    io::write_all(STDOUT_FILENO, bytes);
+fn text(rt: &impl Print, bytes: &[u8]) -> io::Result<()> {
+    rt.write_all(bytes)
 }
 
-fn number(n: u64) {
-    io::print_decimal(STDOUT_FILENO, n);
+fn number(rt: &impl Print, n: u64) -> io::Result<()> {
+    rt.print(n)
 }
 
-fn word(n: u32) {
-    number(n as u64);
+fn word(rt: &impl Print, n: u32) -> io::Result<()> {
+    number(rt, n as u64)
 }
 
 // What the checker says of the words.
-fn judge(words: &[u32]) {
+fn judge(rt: &impl Print, words: &[u32]) -> io::Result<()> {
     let mut scratch = [0u8; 384];
     if store::check(words, &mut scratch) {
-        text(b"1");
+        text(rt, b"1")
     } else {
-        text(b"0");
+        text(rt, b"0")
     }
 }
 
 // The same with another value in one word, which is put back.
-fn judge_with(words: &mut [u32], at: usize, value: u32)
+fn judge_with(rt: &impl Print, words: &mut [u32], at: usize, value: u32) -> io::Result<()>
     requires { at < length words.old }
 {
     let was = words[at];
     words[at] = value;
-    judge(words);
+    let told = judge(rt, words);
     words[at] = was;
+    told
 }
 
 // The same with each of the values 0 to 6.
-fn judge_low(words: &mut [u32], at: usize)
+fn judge_low(rt: &impl Print, words: &mut [u32], at: usize) -> io::Result<()>
     requires { at < length words.old }
 {
     let mut value: u32 = 0;
     while value < 7 {
-        judge_with(words, at, value);
+        judge_with(rt, words, at, value)?;
         value += 1;
     }
+    Ok(())
 }
 
 // A line for one word: its place, its value, and the verdicts with 1 more, 1 less, 16 more in its highest byte, 0 to 6, and the highest value.
-fn damage(words: &mut [u32], at: usize)
+fn damage(rt: &impl Print, words: &mut [u32], at: usize) -> io::Result<()>
     requires { at < length words.old }
 {
     let was = words[at];
-    number(at as u64);
-    text(b" ");
-    word(was);
-    text(b" ");
-    judge_with(words, at, wrapping_add_u32(was, 1));
-    judge_with(words, at, wrapping_sub_u32(was, 1));
-    judge_with(words, at, wrapping_add_u32(was, 268435456));
-    judge_low(words, at);
-    judge_with(words, at, 4294967295);
-    text(b"\n");
+    number(rt, at as u64)?;
+    text(rt, b" ")?;
+    word(rt, was)?;
+    text(rt, b" ")?;
+    judge_with(rt, words, at, wrapping_add_u32(was, 1))?;
+    judge_with(rt, words, at, wrapping_sub_u32(was, 1))?;
+    judge_with(rt, words, at, wrapping_add_u32(was, 268435456))?;
+    judge_low(rt, words, at)?;
+    judge_with(rt, words, at, 4294967295)?;
+    text(rt, b"\n")
 }
 
 // A line for each word from one place up to another.
-fn damage_all(words: &mut [u32], from: usize, to: usize)
+fn damage_all(rt: &impl Print, words: &mut [u32], from: usize, to: usize) -> io::Result<()>
     requires { to ≤ length words.old }
 {
     let mut at = from;
     while at < to {
-        damage(words, at);
+        damage(rt, words, at)?;
         at += 1;
     }
+    Ok(())
 }
 
 // Opens a store, and prints the limits, the bounds, the number and the verdict.
-fn open_with(words: &mut [u32], cards: u32, faults: u32, upper: u32, lower: u32) {
-    text(b"open ");
-    word(cards);
-    text(b" ");
-    word(faults);
-    text(b" ");
-    word(upper);
-    text(b" ");
-    word(lower);
-    text(b": ");
-    word(store::open(words, cards, faults, upper, lower));
-    text(b" ");
-    judge(words);
-    text(b"\n");
+fn open_with(
+    rt: &impl Print,
+    words: &mut [u32],
+    cards: u32,
+    faults: u32,
+    upper: u32,
+    lower: u32,
+) -> io::Result<()> {
+    text(rt, b"open ")?;
+    word(rt, cards)?;
+    text(rt, b" ")?;
+    word(rt, faults)?;
+    text(rt, b" ")?;
+    word(rt, upper)?;
+    text(rt, b" ")?;
+    word(rt, lower)?;
+    text(rt, b": ")?;
+    word(rt, store::open(words, cards, faults, upper, lower))?;
+    text(rt, b" ")?;
+    judge(rt, words)?;
+    text(rt, b"\n")
 }
 
 // The same with the bounds that most stores have.
-fn open(words: &mut [u32], cards: u32, faults: u32) {
-    open_with(words, cards, faults, 4, 2);
+fn open(rt: &impl Print, words: &mut [u32], cards: u32, faults: u32) -> io::Result<()> {
+    open_with(rt, words, cards, faults, 4, 2)
 }
 
 // Open refuses limits and bounds out of range and a wrong length, the first that applies, and then sets a store. Every word of it is
 // damaged.
 
-fn refused_limits(words: &mut [u32]) {
-    open(words, 0, 1);
-    open(words, 1, 0);
-    open(words, 1025, 1);
-    open(words, 1, 2049);
-    open(words, 2, 1);
+fn refused_limits(rt: &impl Print, words: &mut [u32]) -> io::Result<()> {
+    open(rt, words, 0, 1)?;
+    open(rt, words, 1, 0)?;
+    open(rt, words, 1025, 1)?;
+    open(rt, words, 1, 2049)?;
+    open(rt, words, 2, 1)
 }
 
-fn refused_bounds(words: &mut [u32]) {
-    open_with(words, 1, 1, 1, 1);
-    open_with(words, 1, 1, 11, 5);
-    open_with(words, 1, 1, 4, 0);
-    open_with(words, 1, 1, 4, 3);
+fn refused_bounds(rt: &impl Print, words: &mut [u32]) -> io::Result<()> {
+    open_with(rt, words, 1, 1, 1, 1)?;
+    open_with(rt, words, 1, 1, 11, 5)?;
+    open_with(rt, words, 1, 1, 4, 0)?;
+    open_with(rt, words, 1, 1, 4, 3)
 }
 
-fn refused_high_bounds(words: &mut [u32]) {
-    open_with(words, 1, 1, 4, 2147483648);
-    open_with(words, 1, 1, 4, 4294967295);
-    open_with(words, 1, 1, 4294967295, 2);
+fn refused_high_bounds(rt: &impl Print, words: &mut [u32]) -> io::Result<()> {
+    open_with(rt, words, 1, 1, 4, 2147483648)?;
+    open_with(rt, words, 1, 1, 4, 4294967295)?;
+    open_with(rt, words, 1, 1, 4294967295, 2)
 }
 
-fn refused_in_order(words: &mut [u32]) {
-    open_with(words, 0, 1, 4, 3);
-    open_with(words, 2, 1, 4, 3);
+fn refused_in_order(rt: &impl Print, words: &mut [u32]) -> io::Result<()> {
+    open_with(rt, words, 0, 1, 4, 3)?;
+    open_with(rt, words, 2, 1, 4, 3)
 }
 
-fn smallest(words: &mut [u32])
+fn smallest(rt: &impl Print, words: &mut [u32]) -> io::Result<()>
     requires { length words.old ≡ 300 }
 {
-    refused_limits(words);
-    refused_bounds(words);
-    refused_high_bounds(words);
-    refused_in_order(words);
-    open(words, 1, 1);
-    damage_all(words, 0, 300);
+    refused_limits(rt, words)?;
+    refused_bounds(rt, words)?;
+    refused_high_bounds(rt, words)?;
+    refused_in_order(rt, words)?;
+    open(rt, words, 1, 1)?;
+    damage_all(rt, words, 0, 300)
 }
 
-fn small(words: &mut [u32])
+fn small(rt: &impl Print, words: &mut [u32]) -> io::Result<()>
     requires { length words.old ≡ 321 }
 {
-    open(words, 3, 2);
-    damage_all(words, 0, 321);
+    open(rt, words, 3, 2)?;
+    damage_all(rt, words, 0, 321)
 }
 
 // All of the header and the directory, and some of each other part.
-fn largest(words: &mut [u32])
+fn largest(rt: &impl Print, words: &mut [u32]) -> io::Result<()>
     requires { length words.old ≡ 15648 }
 {
-    open(words, 1024, 2048);
-    damage_all(words, 0, 48);
-    damage_all(words, 287, 306);
-    damage_all(words, 9495, 9510);
-    damage_all(words, 15642, 15648);
+    open(rt, words, 1024, 2048)?;
+    damage_all(rt, words, 0, 48)?;
+    damage_all(rt, words, 287, 306)?;
+    damage_all(rt, words, 9495, 9510)?;
+    damage_all(rt, words, 15642, 15648)
 }
 
 // The first words, as many as asked for.
-fn shortened(words: &[u32], n: usize)
+fn shortened(rt: &impl Print, words: &[u32], n: usize) -> io::Result<()>
     requires { n ≤ length words.now }
 {
-    text(b"length ");
-    number(n as u64);
-    text(b": ");
-    judge(&words[0..n]);
-    text(b"\n");
+    text(rt, b"length ")?;
+    number(rt, n as u64)?;
+    text(rt, b": ")?;
+    judge(rt, &words[0..n])?;
+    text(rt, b"\n")
 }
 
-fn lengths(words: &mut [u32])
+fn lengths(rt: &impl Print, words: &mut [u32]) -> io::Result<()>
     requires { length words.old ≡ 301 }
 {
-    open(&mut words[0..300], 1, 1);
-    shortened(words, 0);
-    shortened(words, 15);
-    shortened(words, 16);
-    shortened(words, 287);
-    shortened(words, 288);
-    shortened(words, 299);
-    shortened(words, 300);
-    shortened(words, 301);
+    open(rt, &mut words[0..300], 1, 1)?;
+    shortened(rt, words, 0)?;
+    shortened(rt, words, 15)?;
+    shortened(rt, words, 16)?;
+    shortened(rt, words, 287)?;
+    shortened(rt, words, 288)?;
+    shortened(rt, words, 299)?;
+    shortened(rt, words, 300)?;
+    shortened(rt, words, 301)
 }
 
 // A store in use. Bucket 7 has `7` in cell 2, then `007` in cell 1, whose faults stand in cells 3 and 1; bucket 0 has `A-B` in
@@ -252,17 +262,17 @@ fn put_faults(words: &mut [u32])
     put_fault(words, 345, 0, 0, 0);
 }
 
-fn in_use(words: &mut [u32])
+fn in_use(rt: &impl Print, words: &mut [u32]) -> io::Result<()>
     requires { length words.old ≡ 348 }
 {
-    open(words, 5, 5);
+    open(rt, words, 5, 5)?;
     put_counts(words);
     put_cards(words);
     put_faults(words);
-    text(b"in use: ");
-    judge(words);
-    text(b"\n");
-    damage_all(words, 0, 348);
+    text(rt, b"in use: ")?;
+    judge(rt, words)?;
+    text(rt, b"\n")?;
+    damage_all(rt, words, 0, 348)
 }
 
 // A store of 17 buckets with the fewest cards that they allow: cell i has a serial of one byte, `0` to `9` and `A` to `X`.
@@ -345,18 +355,18 @@ fn put_growth(words: &mut [u32])
     put(words, 17, 48);
 }
 
-fn grown(words: &mut [u32])
+fn grown(rt: &impl Print, words: &mut [u32]) -> io::Result<()>
     requires { length words.old ≡ 651 }
 {
-    open(words, 40, 1);
+    open(rt, words, 40, 1)?;
     put_growth(words);
     put_buckets(words);
     put_labels(words);
-    text(b"grown: ");
-    judge(words);
-    text(b"\n");
-    damage_all(words, 0, 54);
-    damage_all(words, 288, 315);
+    text(rt, b"grown: ")?;
+    judge(rt, words)?;
+    text(rt, b"\n")?;
+    damage_all(rt, words, 0, 54)?;
+    damage_all(rt, words, 288, 315)
 }
 
 // Stores of other bounds, and one of format 1, with cards that calls have entered and withdrawn: serials of two letters.
@@ -396,115 +406,117 @@ fn withdraw_all(words: &mut [u32], count: u32) {
 }
 
 // The verdicts with lower bounds 0 to 6 beside an upper one, and the words else as they are.
-fn judge_lower(words: &mut [u32], upper: u32)
+fn judge_lower(rt: &impl Print, words: &mut [u32], upper: u32) -> io::Result<()>
     requires { (upper < 12) × (14 < length words.old) }
 {
     let mut lower: u32 = 0;
     while lower < 7 {
-        judge_with(words, 14, 256 * upper + lower);
+        judge_with(rt, words, 14, 256 * upper + lower)?;
         lower += 1;
     }
+    Ok(())
 }
 
 // A line for an upper bound.
-fn judge_upper(words: &mut [u32], upper: u32)
+fn judge_upper(rt: &impl Print, words: &mut [u32], upper: u32) -> io::Result<()>
     requires { (upper < 12) × (14 < length words.old) }
 {
-    text(b"upper ");
-    word(upper);
-    text(b": ");
-    judge_lower(words, upper);
-    text(b"\n");
+    text(rt, b"upper ")?;
+    word(rt, upper)?;
+    text(rt, b": ")?;
+    judge_lower(rt, words, upper)?;
+    text(rt, b"\n")
 }
 
-fn judge_bounds(words: &mut [u32])
+fn judge_bounds(rt: &impl Print, words: &mut [u32]) -> io::Result<()>
     requires { 14 < length words.old }
 {
     let mut upper: u32 = 0;
     while upper < 12 {
-        judge_upper(words, upper);
+        judge_upper(rt, words, upper)?;
         upper += 1;
     }
+    Ok(())
 }
 
 // maxp, p, cards held and the verdict; then the header, the directory and the first bucket words damaged, and other bounds.
-fn tell_loaded(words: &mut [u32])
+fn tell_loaded(rt: &impl Print, words: &mut [u32]) -> io::Result<()>
     requires { length words.old ≡ 5691 }
 {
-    text(b"loaded ");
-    word(words[3]);
-    text(b" ");
-    word(words[4]);
-    text(b" ");
-    word(words[5]);
-    text(b": ");
-    judge(words);
-    text(b"\n");
-    damage_all(words, 0, 34);
-    judge_bounds(words);
+    text(rt, b"loaded ")?;
+    word(rt, words[3])?;
+    text(rt, b" ")?;
+    word(rt, words[4])?;
+    text(rt, b" ")?;
+    word(rt, words[5])?;
+    text(rt, b": ")?;
+    judge(rt, words)?;
+    text(rt, b"\n")?;
+    damage_all(rt, words, 0, 34)?;
+    judge_bounds(rt, words)
 }
 
 // 256 buckets with more cards than the upper bound allows.
-fn over(words: &mut [u32])
+fn over(rt: &impl Print, words: &mut [u32]) -> io::Result<()>
     requires { length words.old ≡ 5691 }
 {
-    open_with(words, 600, 1, 2, 1);
+    open_with(rt, words, 600, 1, 2, 1)?;
     enter_all(words, 515);
-    tell_loaded(words);
+    tell_loaded(rt, words)
 }
 
 // 16 buckets with as many cards as the upper bound allows.
-fn most(words: &mut [u32])
+fn most(rt: &impl Print, words: &mut [u32]) -> io::Result<()>
     requires { length words.old ≡ 5691 }
 {
-    open_with(words, 600, 1, 10, 5);
+    open_with(rt, words, 600, 1, 10, 5)?;
     enter_all(words, 160);
-    tell_loaded(words);
+    tell_loaded(rt, words)
 }
 
 // 17 buckets with the fewest cards that the lower bound allows.
-fn fewest(words: &mut [u32])
+fn fewest(rt: &impl Print, words: &mut [u32]) -> io::Result<()>
     requires { length words.old ≡ 5691 }
 {
-    open_with(words, 600, 1, 10, 5);
+    open_with(rt, words, 600, 1, 10, 5)?;
     enter_all(words, 161);
     withdraw_all(words, 76);
-    tell_loaded(words);
+    tell_loaded(rt, words)
 }
 
-fn first_format(words: &mut [u32])
+fn first_format(rt: &impl Print, words: &mut [u32]) -> io::Result<()>
     requires { length words.old ≡ 5691 }
 {
-    open(words, 600, 1);
+    open(rt, words, 600, 1)?;
     put(words, 0, 1);
     put(words, 14, 0);
     enter_all(words, 69);
-    tell_loaded(words);
+    tell_loaded(rt, words)
 }
 
-fn loaded(words: &mut [u32])
+fn loaded(rt: &impl Print, words: &mut [u32]) -> io::Result<()>
     requires { length words.old ≡ 5691 }
 {
-    over(words);
-    most(words);
-    fewest(words);
-    first_format(words);
+    over(rt, words)?;
+    most(rt, words)?;
+    fewest(rt, words)?;
+    first_format(rt, words)
 }
 
 // Whatever the words held before, here ones in every bit.
-fn main() {
+fn main(rt: HostRuntime) -> io::Result<()> {
     let mut first = [4294967295u32; 300];
-    smallest(&mut first);
+    smallest(&rt, &mut first)?;
     let mut second = [4294967295u32; 301];
-    lengths(&mut second);
+    lengths(&rt, &mut second)?;
     let mut third = [4294967295u32; 321];
-    small(&mut third);
+    small(&rt, &mut third)?;
     let mut fourth = [4294967295u32; 348];
-    in_use(&mut fourth);
+    in_use(&rt, &mut fourth)?;
     let mut fifth = [4294967295u32; 651];
-    grown(&mut fifth);
+    grown(&rt, &mut fifth)?;
     let mut sixth = [4294967295u32; 15648];
-    largest(&mut sixth);
+    largest(&rt, &mut sixth)?;
     let mut seventh = [4294967295u32; 5691];
-    loaded(&mut seventh);
+    loaded(&rt, &mut seventh)
 }
