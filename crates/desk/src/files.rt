@@ -1,7 +1,7 @@
 // Files: read, made, written, put in the place of others. Each failure is said, and what to do then: `job` where that is to send a job again.
 //
 // The library opens a name that is text, and no other; one that is not UTF-8 fails as a name that the system refused.
-ghost use Rattle.io.specs.Counts.{IsPrefixLen};
+ghost use Rattle.desk.specs.Counts.{IsPrefixLen};
 
 use crate::tell;
 use disk::names;

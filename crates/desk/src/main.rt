@@ -2,7 +2,7 @@
 // no status of its own. It writes to standard error where something is to be said and nowhere else; the script `desk` gives the status by that.
 #![tactic(auto)]
 
-ghost use Rattle.io.specs.Counts.{IsPrefixLen};
+ghost use Rattle.desk.specs.Counts.{IsPrefixLen};
 ghost use Rattle.std.specs.Prelude.{◌≤◌, length};
 
 mod files; // files.rt: files read, made, written and renamed
