@@ -1,6 +1,6 @@
-//! Links target/staticlib/libcard_store.a, which `rt staticlib card_store` writes. The archive is x86-64 code, so this crate
-//! is built for x86-64 alone; docs/RUST.md says how that is done on an Arm machine. The archive becomes a part of the built
-//! library, so that programs, tests and examples in the documentation have it without more.
+//! Links target/staticlib/libcard_store.a, which `tools/staticlib card_store` writes. The archive is x86-64 code, so this
+//! crate is built for x86-64 alone; docs/RUST.md says how that is done on an Arm machine. The archive becomes a part of the
+//! built library, so that programs, tests and examples in the documentation have it without more.
 use std::{env, path::Path};
 
 fn main() {
@@ -9,7 +9,7 @@ fn main() {
 
     let folder = Path::new(&env::var("CARGO_MANIFEST_DIR").unwrap()).join("../target/staticlib");
     let archive = folder.join("libcard_store.a");
-    assert!(archive.exists(), "there is no {}: run `rt staticlib card_store` first", archive.display());
+    assert!(archive.exists(), "there is no {}: run `tools/staticlib card_store` first", archive.display());
 
     println!("cargo:rerun-if-changed={}", archive.display());
     println!("cargo:rustc-link-search=native={}", folder.display());

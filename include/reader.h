@@ -1,5 +1,5 @@
 /*
- * The card store for C and C++. Link target/staticlib/libcard_store.a, which `rt staticlib
+ * The card store for C and C++. Link target/staticlib/libcard_store.a, which `tools/staticlib
  * card_store` writes. It is x86-64 code with the calling convention of Linux, and of the linker it
  * wants memcpy and memset alone. docs/C.md is the page on it; docs/RULES.md has the rules.
  *
@@ -413,8 +413,8 @@ reader_wrote reader_report(const uint32_t *words, size_t words_length, const uin
 
 /* ---- the two rules of the table --------------------------------------------------------------- */
 
-/* No call above needs them. They stand alone in target/staticlib/librules.a too, which `rt staticlib
-   rules` writes. */
+/* No call above needs them. They stand alone in target/staticlib/librules.a too, which
+   `tools/staticlib rules` writes. */
 
 /*
  * The serial code: start at 0; for each byte, from the first to the last, the code becomes

@@ -1,15 +1,15 @@
 -- What the answer of a read says, and how many bytes may come of it.
-use Rattle.std.specs.Prelude.{ℕ, zero, suc, ◌≤◌, ◌<◌, ℤ, pos, negsuc}
+use Rattle.std.specs.Prelude.{ℕ, zero, suc, ◌≤◌, ◌<◌, Result, Ok, Err}
 use Rattle.depot.specs.declared.Step.{Step}
 use Rattle.depot.specs.declared.Step.TheVariants.{More, End, Failed}
 use Rattle.depot.specs.declared.Input.{Input}
 use Rattle.depot.specs.declared.Input.TheVariants.{Whole, Unread}
 
--- a negative answer is a failure, 0 is the end of the input, any other so many bytes
-abbrev pub step_of : ℤ → Step
-step_of (pos zero) = End
-step_of (pos (suc k)) = More (suc k)
-step_of (negsuc k) = Failed
+-- an error is a failure, 0 is the end of the input, any other number so many bytes
+abbrev pub step_of : {E : Type 0} → Result ℕ E → Step
+step_of (Ok zero) = End
+step_of (Ok (suc k)) = More (suc k)
+step_of (Err e) = Failed
 
 -- what comes is at least one byte and fits the room
 abbrev pub Brings : ℕ → Step → Type 0

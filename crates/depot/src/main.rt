@@ -10,7 +10,8 @@
 ghost use Rattle.std.specs.Prelude.{◌≡◌, ◌-◌, ◌≤◌, length, take};
 ghost use Rattle.depot.specs.Reading.{step_of, Brings, Within};
 
-use libc::{STDERR_FILENO, STDIN_FILENO, STDOUT_FILENO};
+use std::io;
+use std::io::{Read, Write};
 
 // What one read brings.
 #[derive(Clone, Copy)]
@@ -28,36 +29,36 @@ enum Input {
 }
 
 // What the answer of a read says.
-fn brought(got: isize) -> Step
+fn brought(got: io::Result<usize>) -> Step
     ensures { result ≡ step_of got }
 {
-    if got < 0 {
+    let Ok(n) = got else {
         return Step::Failed;
-    }
-    if got == 0 {
+    };
+    if n == 0 {
         return Step::End;
     }
-    Step::More(got as usize)
+    Step::More(n)
 }
 
 // One read into what is behind the first `len` bytes; those stay as they are. An interrupted read
 // counts as a failed one.
-fn read_on(fd: i32, buf: &mut [u8], len: usize) -> Step
+fn read_on<R: Read>(input: &mut R, buf: &mut [u8], len: usize) -> Step
     requires { len ≤ length buf.old }
     ensures brings { Brings (length buf.old - len) result }
     ensures buf_unchanged { take len buf.new ≡ take len buf.old }
 {
-    let got = libc::read(fd, &mut buf[len..]);
+    let got = input.read(&mut buf[len..]);
     brought(got)
 }
 
 // Reads until the input ends, a read fails or the buffer is full.
-fn read_all(fd: i32, buf: &mut [u8]) -> Input
+fn read_all<R: Read>(input: &mut R, buf: &mut [u8]) -> Input
     ensures { Within (length buf.new) result }
 {
     let mut len: usize = 0;
     while len < buf.len() {
-        match read_on(fd, buf, len) {
+        match read_on(input, buf, len) {
             Step::More(n) => len += n,
             Step::End => return Input::Whole(len),
             Step::Failed => return Input::Unread,
@@ -66,25 +67,39 @@ fn read_all(fd: i32, buf: &mut [u8]) -> Input
     Input::Whole(len)
 }
 
+// Writes all of the bytes and returns true, or stops at the first write that takes nothing or fails,
+// as one that is interrupted, and returns false.
+fn write_all<W: Write>(output: &mut W, bytes: &[u8]) -> bool {
+    let mut done: usize = 0;
+    while done < bytes.len() {
+        match output.write(&bytes[done..]) {
+            Ok(n) if n > 0 => done += n,
+            _ => return false,
+        }
+    }
+    true
+}
+
 // Writes the answers of a job.
-fn write_answers(job: &[u8]) {
+fn write_answers(rt: &HostRuntime, job: &[u8]) {
     let text = reader::answer(job);
     let bytes = text.bytes;
     let len = text.len;
-    if !io::write_all(STDOUT_FILENO, &bytes[..len]) {
-        say(b"depot: the answers could not all be written\n");
+    if !write_all(&mut rt.stdout(), &bytes[..len]) {
+        say(rt, b"depot: the answers could not all be written\n");
     }
 }
 
-fn say(text: &[u8]) {
-    io::write_all(STDERR_FILENO, text);
+fn say(rt: &HostRuntime, text: &[u8]) {
+    write_all(&mut rt.stderr(), text);
 }
 
-fn main() {
+fn main(rt: HostRuntime) {
     let mut input = [0u8; reader::INPUT];
-    match read_all(STDIN_FILENO, &mut input) {
-        Input::Whole(len) => write_answers(&input[..len]),
+    match read_all(&mut rt.stdin(), &mut input) {
+        Input::Whole(len) => write_answers(&rt, &input[..len]),
         Input::Unread => say(
+            &rt,
             b"depot: the input could not be read to its end, so no line of it was run\n",
         ),
     }

@@ -1,186 +1,273 @@
 // Files: read, made, written, put in the place of others. Each failure is said, and what to do then: `job` where that is to send a job again.
-ghost use Rattle.io.specs.Counts.{IsPrefixLen};
+//
+// The library opens a name that is text, and no other; one that is not UTF-8 fails as a name that the system refused.
+ghost use Rattle.desk.specs.Counts.{IsPrefixLen};
 
 use crate::tell;
 use disk::names;
+use std::fs::{File, OpenOptions};
+use std::io::{Error, ErrorKind, Read, Write};
+use std::{fs, io};
 
-// The bytes that were read, and whether all were.
+// The bytes that were read, and whether all were; where not, that is said.
 #[derive(Clone, Copy)]
 pub struct Got {
     pub len: usize,
     pub ok: bool,
 }
 
-// Reads once. A failed read is not the end.
-fn read_some(fd: i32, buf: &mut [u8]) -> Got
+// The bytes that were read, and why not all were.
+#[derive(Clone, Copy)]
+pub struct Input {
+    pub len: usize,
+    pub error: Option<Error>,
+}
+
+// Reads once. A failed read is not the end, and an interrupted one counts as failed.
+fn read_some<R: Read>(input: &mut R, buf: &mut [u8]) -> Input
     ensures { IsPrefixLen result.len buf.new }
 {
-    let got = libc::read(fd, buf);
-    if got < 0 {
-        return Got { len: 0, ok: false };
-    }
-    Got {
-        len: io::count(got, buf),
-        ok: true,
+    match input.read(buf) {
+        Ok(len) => Input { len, error: None },
+        Err(e) => Input {
+            len: 0,
+            error: Some(e),
+        },
     }
 }
 
 // Reads to the end of the input or of the room.
-pub fn read_all(fd: i32, buf: &mut [u8]) -> Got
+pub fn read_all<R: Read>(input: &mut R, buf: &mut [u8]) -> Input
     ensures { IsPrefixLen result.len buf.new }
 {
     let mut len: usize = 0;
     while len < buf.len() {
-        let got = read_some(fd, &mut buf[len..]);
+        let got = read_some(input, &mut buf[len..]);
         if got.len == 0 {
-            return Got { len, ok: got.ok };
+            return Input {
+                len,
+                error: got.error,
+            };
         }
         len += got.len;
     }
-    Got { len, ok: true }
+    Input { len, error: None }
 }
 
-// The bytes of a file that is open, which is closed.
-fn read_open(fd: i32, path: &[u8], file: &mut [u8], job: bool) -> Got
-    ensures { IsPrefixLen result.len file.new }
-{
-    let got = read_all(fd, file);
-    if !got.ok {
-        tell::failed(b"cannot read ", path, job);
-    }
-    libc::close(fd);
-    got
-}
-
-// The bytes of a file.
-pub fn load(path: &[u8], file: &mut [u8], job: bool) -> Got
-    ensures { IsPrefixLen result.len file.new }
-{
-    let fd = os::open_read(path);
-    if fd < 0 {
-        tell::failed(b"cannot open ", path, job);
-        return Got { len: 0, ok: false };
-    }
-    read_open(fd, path, file, job)
-}
-
-// The bytes of the saved answers beside a file.
-pub fn load_last(path: &[u8], last: &[u8], bytes: &mut [u8]) -> Got
-    ensures { IsPrefixLen result.len bytes.new }
-{
-    let fd = os::open_read(last);
-    if fd < 0 {
-        if os::errno() == libc::ENOENT {
-            tell::say(b"desk: there are no saved answers for ");
-            tell::say(path);
-            tell::say(b"\n");
-        } else {
-            tell::failed(b"cannot open ", last, false);
-        }
-        return Got { len: 0, ok: false };
-    }
-    read_open(fd, last, bytes, false)
-}
-
-// The folder of a file, synced, so that a new name in it lasts.
-pub fn sync_folder(path: &[u8]) -> bool {
-    let end = names::folder_end(path);
-    let fd = if end == 0 {
-        os::open_read(b".")
-    } else {
-        os::open_read(&path[..end])
-    };
-    if fd < 0 {
-        return false;
-    }
-    let done = libc::fsync(fd);
-    libc::close(fd);
-    done == 0
-}
-
-// FILE.new, made for this desk alone: its descriptor, or -1.
-pub fn lock(path: &[u8], name: &[u8], job: bool) -> i32 {
-    let fd = os::create(name);
-    if fd < 0 {
-        if os::errno() == libc::EEXIST {
-            taken(path, name);
-        } else {
-            tell::failed(b"cannot make ", name, job);
+// Writes all of the bytes, or stops at the first write that takes nothing or fails, as one that is interrupted.
+pub fn write_all<W: Write>(output: &mut W, bytes: &[u8]) -> io::Result<()> {
+    let mut done: usize = 0;
+    while done < bytes.len() {
+        match output.write(&bytes[done..]) {
+            Ok(0) => return Err(Error::from(ErrorKind::WriteZero)),
+            Ok(n) => done += n,
+            Err(e) => return Err(e),
         }
     }
-    fd
+    Ok(())
 }
 
-fn taken(path: &[u8], name: &[u8]) {
-    tell::told(
-        name,
-        b" is there: another desk is at work, or one was cut off. Nothing was done. If none is at work, remove ",
-    );
-    tell::say(name);
-    tell::say(b"; desk last ");
-    tell::say(path);
-    tell::say(b" shows what was answered last\n");
+// Of a name that is no text.
+fn no_text() -> Error {
+    Error::from(ErrorKind::InvalidFilename)
 }
 
-// FILE.new given up.
-pub fn unlock(fd: i32, name: &[u8]) {
-    libc::close(fd);
-    os::unlink(name);
-}
-
-// Writes some bytes; a descriptor that takes them not is closed.
-pub fn put(fd: i32, name: &[u8], bytes: &[u8], job: bool) -> bool {
-    if io::write_all(fd, bytes) {
-        return true;
+// Opens a file, or a folder, to be read.
+pub fn open_read(rt: &HostRuntime, path: &[u8]) -> io::Result<File> {
+    match str::from_utf8(path) {
+        Ok(path) => File::open(rt, path),
+        Err(_) => Err(no_text()),
     }
-    tell::failed(b"cannot write ", name, job);
-    libc::close(fd);
-    false
 }
 
-// A file that is written is synced and closed.
-pub fn finish(fd: i32, name: &[u8], job: bool) -> bool {
-    if libc::fsync(fd) != 0 {
-        tell::failed(b"cannot sync ", name, job);
-        libc::close(fd);
-        return false;
+// Makes a file that is not there, to be written.
+fn create(rt: &HostRuntime, path: &[u8]) -> io::Result<File> {
+    match str::from_utf8(path) {
+        Ok(path) => OpenOptions::new()
+            .write(true)
+            .create_new(true)
+            .open(rt, path),
+        Err(_) => Err(no_text()),
     }
-    if libc::close(fd) != 0 {
-        tell::failed(b"cannot close ", name, job);
-        return false;
-    }
-    true
 }
 
-// The bytes into FILE.new, whole and synced, which is closed.
-fn fill(fd: i32, name: &[u8], bytes: &[u8], job: bool) -> bool {
-    if !put(fd, name, bytes, job) {
-        return false;
+// Makes a file to be written, in the place of what is there.
+pub fn open_overwrite(rt: &HostRuntime, path: &[u8]) -> io::Result<File> {
+    match str::from_utf8(path) {
+        Ok(path) => File::create(rt, path),
+        Err(_) => Err(no_text()),
     }
-    finish(fd, name, job)
+}
+
+// Removes a file, if it is there.
+pub fn unlink(rt: &HostRuntime, path: &[u8]) {
+    if let Ok(path) = str::from_utf8(path) {
+        let _ = fs::remove_file(rt, path);
+    }
 }
 
 // A file takes another's name.
-pub fn place(name: &[u8], path: &[u8], job: bool) -> bool {
-    if os::rename(name, path) != 0 {
-        tell::failed(b"cannot rename ", name, job);
+fn rename(rt: &HostRuntime, from: &[u8], to: &[u8]) -> io::Result<()> {
+    match (str::from_utf8(from), str::from_utf8(to)) {
+        (Ok(from), Ok(to)) => fs::rename(rt, from, to),
+        _ => Err(no_text()),
+    }
+}
+
+// The bytes of a file that is open, which is closed.
+fn read_open(rt: &HostRuntime, mut open: File, path: &[u8], file: &mut [u8], job: bool) -> Got
+    ensures { IsPrefixLen result.len file.new }
+{
+    let got = read_all(&mut open, file);
+    let len = got.len;
+    match got.error {
+        None => Got { len, ok: true },
+        Some(e) => {
+            tell::failed(rt, b"cannot read ", path, e, job);
+            Got { len, ok: false }
+        }
+    }
+}
+
+// The bytes of a file.
+pub fn load(rt: &HostRuntime, path: &[u8], file: &mut [u8], job: bool) -> Got
+    ensures { IsPrefixLen result.len file.new }
+{
+    match open_read(rt, path) {
+        Ok(open) => read_open(rt, open, path, file, job),
+        Err(e) => {
+            tell::failed(rt, b"cannot open ", path, e, job);
+            Got { len: 0, ok: false }
+        }
+    }
+}
+
+// The bytes of the saved answers beside a file.
+pub fn load_last(rt: &HostRuntime, path: &[u8], last: &[u8], bytes: &mut [u8]) -> Got
+    ensures { IsPrefixLen result.len bytes.new }
+{
+    match open_read(rt, last) {
+        Ok(open) => read_open(rt, open, last, bytes, false),
+        Err(e) => {
+            if e.kind() == ErrorKind::NotFound {
+                tell::say(rt, b"desk: there are no saved answers for ");
+                tell::say(rt, path);
+                tell::say(rt, b"\n");
+            } else {
+                tell::failed(rt, b"cannot open ", last, e, false);
+            }
+            Got { len: 0, ok: false }
+        }
+    }
+}
+
+// The folder of a file, synced, so that a new name in it lasts.
+pub fn sync_folder(rt: &HostRuntime, path: &[u8]) -> io::Result<()> {
+    let end = names::folder_end(path);
+    let opened = if end == 0 {
+        open_read(rt, b".")
+    } else {
+        open_read(rt, &path[..end])
+    };
+    match opened {
+        Ok(folder) => folder.sync_all(),
+        Err(e) => Err(e),
+    }
+}
+
+// FILE.new, made for this desk alone.
+pub fn lock(rt: &HostRuntime, path: &[u8], name: &[u8], job: bool) -> Option<File> {
+    match create(rt, name) {
+        Ok(held) => Some(held),
+        Err(e) => {
+            if e.kind() == ErrorKind::AlreadyExists {
+                taken(rt, path, name);
+            } else {
+                tell::failed(rt, b"cannot make ", name, e, job);
+            }
+            None
+        }
+    }
+}
+
+fn taken(rt: &HostRuntime, path: &[u8], name: &[u8]) {
+    tell::told(
+        rt,
+        name,
+        b" is there: another desk is at work, or one was cut off. Nothing was done. If none is at work, remove ",
+    );
+    tell::say(rt, name);
+    tell::say(rt, b"; desk last ");
+    tell::say(rt, path);
+    tell::say(rt, b" shows what was answered last\n");
+}
+
+// FILE.new given up.
+pub fn unlock(rt: &HostRuntime, held: File, name: &[u8]) {
+    drop(held);
+    unlink(rt, name);
+}
+
+// Writes some bytes.
+pub fn put(rt: &HostRuntime, file: &mut File, name: &[u8], bytes: &[u8], job: bool) -> bool {
+    match write_all(file, bytes) {
+        Ok(()) => true,
+        Err(e) => {
+            tell::failed(rt, b"cannot write ", name, e, job);
+            false
+        }
+    }
+}
+
+// A file that is written is synced and closed.
+pub fn finish(rt: &HostRuntime, file: File, name: &[u8], job: bool) -> bool {
+    match file.sync_all() {
+        Ok(()) => true,
+        Err(e) => {
+            tell::failed(rt, b"cannot sync ", name, e, job);
+            false
+        }
+    }
+}
+
+// The bytes into FILE.new, whole and synced, which is closed.
+fn fill(rt: &HostRuntime, mut held: File, name: &[u8], bytes: &[u8], job: bool) -> bool {
+    if !put(rt, &mut held, name, bytes, job) {
         return false;
     }
-    true
+    finish(rt, held, name, job)
+}
+
+// A file takes another's name.
+pub fn place(rt: &HostRuntime, name: &[u8], path: &[u8], job: bool) -> bool {
+    match rename(rt, name, path) {
+        Ok(()) => true,
+        Err(e) => {
+            tell::failed(rt, b"cannot rename ", name, e, job);
+            false
+        }
+    }
 }
 
 // The bytes into FILE.new, and FILE.new to FILE. Where that fails FILE is as it was and FILE.new is gone.
-pub fn save(fd: i32, name: &[u8], path: &[u8], bytes: &[u8], job: bool) -> bool {
-    if !fill(fd, name, bytes, job) {
-        os::unlink(name);
+pub fn save(
+    rt: &HostRuntime,
+    held: File,
+    name: &[u8],
+    path: &[u8],
+    bytes: &[u8],
+    job: bool,
+) -> bool {
+    if !fill(rt, held, name, bytes, job) {
+        unlink(rt, name);
         return false;
     }
-    if !place(name, path, job) {
-        os::unlink(name);
+    if !place(rt, name, path, job) {
+        unlink(rt, name);
         return false;
     }
-    if !sync_folder(path) {
-        tell::done_but(b"cannot sync the folder of ", path);
+    if let Err(e) = sync_folder(rt, path) {
+        tell::done_but(rt, b"cannot sync the folder of ", path, e);
     }
     true
 }

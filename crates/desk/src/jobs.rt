@@ -2,53 +2,69 @@
 // closed, renamed to FILE.last, the folder synced; FILE.new written, synced, closed, renamed to FILE, the folder synced; the answers.
 use crate::{files, tell};
 use disk::lasts;
-use libc::{STDIN_FILENO, STDOUT_FILENO};
+use std::fs::File;
+
+// The bytes of a job's text that are read; a longer one is too long, and the rest of it makes no difference.
+const TEXT: usize = 65536;
 
 // The saved answers into FILE.last.new, whole and synced, which is closed.
-fn fill_last(fd: i32, name: &[u8], bytes: &[u8], answers: &[u8]) -> bool {
+fn fill_last(rt: &HostRuntime, mut open: File, name: &[u8], bytes: &[u8], answers: &[u8]) -> bool {
     let head = lasts::head(bytes);
-    if !files::put(fd, name, &head, true) {
+    if !files::put(rt, &mut open, name, &head, true) {
         return false;
     }
-    if !files::put(fd, name, bytes, true) {
+    if !files::put(rt, &mut open, name, bytes, true) {
         return false;
     }
-    if !files::put(fd, name, answers, true) {
+    if !files::put(rt, &mut open, name, answers, true) {
         return false;
     }
-    files::finish(fd, name, true)
+    files::finish(rt, open, name, true)
 }
 
 // FILE.last.new to FILE.last, and the folder synced.
-fn place_last(path: &[u8], last: &[u8], spare: &[u8]) -> bool {
-    if !files::place(spare, last, true) {
-        os::unlink(spare);
+fn place_last(rt: &HostRuntime, path: &[u8], last: &[u8], spare: &[u8]) -> bool {
+    if !files::place(rt, spare, last, true) {
+        files::unlink(rt, spare);
         return false;
     }
-    if !files::sync_folder(path) {
-        tell::failed(b"cannot sync the folder of ", path, true);
-        return false;
+    match files::sync_folder(rt, path) {
+        Ok(()) => true,
+        Err(e) => {
+            tell::failed(rt, b"cannot sync the folder of ", path, e, true);
+            false
+        }
     }
-    true
 }
 
 // The answers saved in FILE.last, by way of FILE.last.new, whose name is `spare`.
-fn save_last(path: &[u8], last: &[u8], spare: &[u8], bytes: &[u8], answers: &[u8]) -> bool {
-    let fd = os::open_overwrite(spare);
-    if fd < 0 {
-        tell::failed(b"cannot make ", spare, true);
-        return false;
+fn save_last(
+    rt: &HostRuntime,
+    path: &[u8],
+    last: &[u8],
+    spare: &[u8],
+    bytes: &[u8],
+    answers: &[u8],
+) -> bool {
+    match files::open_overwrite(rt, spare) {
+        Ok(open) => {
+            if !fill_last(rt, open, spare, bytes, answers) {
+                files::unlink(rt, spare);
+                return false;
+            }
+        }
+        Err(e) => {
+            tell::failed(rt, b"cannot make ", spare, e, true);
+            return false;
+        }
     }
-    if !fill_last(fd, spare, bytes, answers) {
-        os::unlink(spare);
-        return false;
-    }
-    place_last(path, last, spare)
+    place_last(rt, path, last, spare)
 }
 
 // What a job leaves, where it has changed: the answers in FILE.last, then the store in FILE. Whether the answers may be written.
 fn keep(
-    fd: i32,
+    rt: &HostRuntime,
+    held: File,
     path: &[u8],
     name: &[u8],
     last: &[u8],
@@ -56,41 +72,46 @@ fn keep(
     bytes: &[u8],
     answers: &[u8],
 ) -> bool {
-    if !save_last(path, last, spare, bytes, answers) {
-        files::unlock(fd, name);
+    if !save_last(rt, path, last, spare, bytes, answers) {
+        files::unlock(rt, held, name);
         return false;
     }
-    files::save(fd, name, path, bytes, true)
+    files::save(rt, held, name, path, bytes, true)
 }
 
 // What a job's number means, where it is not 0; the file had so many bytes.
-fn explain(path: &[u8], len: usize, number: u32) {
+fn explain(rt: &HostRuntime, path: &[u8], len: usize, number: u32) {
     match number {
         0 => {}
-        3 => tell::no_store(path, len),
-        13 => tell::say(b"desk: the job has more than 16384 bytes. Nothing was done\n"),
+        3 => tell::no_store(rt, path, len),
+        13 => tell::say(
+            rt,
+            b"desk: the job has more than 16384 bytes. Nothing was done\n",
+        ),
         _ => tell::say(
+            rt,
             b"desk: done, but the job has stopped before a line whose answer did not fit; send the rest from that line on\n",
         ),
     }
 }
 
 // The answers, once all is saved.
-fn answer(path: &[u8], len: usize, answers: &[u8], number: u32) {
-    if !io::write_all(STDOUT_FILENO, answers) {
+fn answer(rt: &HostRuntime, path: &[u8], len: usize, answers: &[u8], number: u32) {
+    if let Err(e) = files::write_all(&mut rt.stdout(), answers) {
         if number == 0 || number == 10 {
-            tell::done_but(b"cannot write the answers for ", path);
+            tell::done_but(rt, b"cannot write the answers for ", path, e);
         } else {
-            tell::failed(b"cannot write the answer for ", path, true);
+            tell::failed(rt, b"cannot write the answer for ", path, e, true);
         }
         return;
     }
-    explain(path, len, number);
+    explain(rt, path, len, number);
 }
 
 // A job on the bytes of a file, with FILE.new held.
 fn serve(
-    fd: i32,
+    rt: &HostRuntime,
+    held: File,
     path: &[u8],
     name: &[u8],
     last: &[u8],
@@ -103,37 +124,44 @@ fn serve(
     let len = r.len;
     let number = r.number;
     if !r.save {
-        files::unlock(fd, name);
-    } else if !keep(fd, path, name, last, spare, file, &out[..len]) {
+        files::unlock(rt, held, name);
+    } else if !keep(rt, held, path, name, last, spare, file, &out[..len]) {
         return;
     }
-    answer(path, file.len(), &out[..len], number);
+    answer(rt, path, file.len(), &out[..len], number);
 }
 
 // The same, the file read first.
-fn serve_held(fd: i32, path: &[u8], name: &[u8], last: &[u8], spare: &[u8], text: &[u8]) {
+fn serve_held(
+    rt: &HostRuntime,
+    held: File,
+    path: &[u8],
+    name: &[u8],
+    last: &[u8],
+    spare: &[u8],
+    text: &[u8],
+) {
     let mut file = disk::file_room();
-    let got = files::load(path, &mut file, true);
+    let got = files::load(rt, path, &mut file, true);
     let len = got.len;
     if got.ok {
-        serve(fd, path, name, last, spare, text, &mut file[..len]);
+        serve(rt, held, path, name, last, spare, text, &mut file[..len]);
     } else {
-        files::unlock(fd, name);
+        files::unlock(rt, held, name);
     }
 }
 
 // The input first, so that FILE.new is there no longer than it must. Of a text that is longer than the room the rest makes no difference.
 // The names are those of FILE, FILE.new, FILE.last and FILE.last.new.
-pub fn run(path: &[u8], name: &[u8], last: &[u8], spare: &[u8]) {
-    let mut text = io::large_buffer();
-    let got = files::read_all(STDIN_FILENO, &mut text);
+pub fn run(rt: &HostRuntime, path: &[u8], name: &[u8], last: &[u8], spare: &[u8]) {
+    let mut text = [0u8; TEXT];
+    let got = files::read_all(&mut rt.stdin(), &mut text);
     let len = got.len;
-    if !got.ok {
-        tell::failed(b"cannot read ", b"standard input", true);
+    if let Some(e) = got.error {
+        tell::failed(rt, b"cannot read ", b"standard input", e, true);
         return;
     }
-    let fd = files::lock(path, name, true);
-    if fd >= 0 {
-        serve_held(fd, path, name, last, spare, &text[..len]);
+    if let Some(held) = files::lock(rt, path, name, true) {
+        serve_held(rt, held, path, name, last, spare, &text[..len]);
     }
 }

@@ -1,57 +1,64 @@
 // desk new FILE CARDS FAULTS [UPPER LOWER].
-use crate::{files, tell};
+use crate::{argument, files, tell};
 use disk::{opens, texts};
-use libc::STDOUT_FILENO;
+use std::io::ErrorKind;
 
 // The longest argument that is read; a longer one is no number.
 const FIELD: usize = 16;
 
 // Whether there is no file of this name; where there is one, or nobody can tell, it is said.
-fn is_free(path: &[u8]) -> bool {
-    let fd = os::open_read(path);
-    if fd >= 0 {
-        libc::close(fd);
-        tell::told(path, b" is there already. Nothing was done\n");
-        return false;
+fn is_free(rt: &HostRuntime, path: &[u8]) -> bool {
+    match files::open_read(rt, path) {
+        Ok(open) => {
+            drop(open);
+            tell::told(rt, path, b" is there already. Nothing was done\n");
+            false
+        }
+        Err(e) => {
+            if e.kind() == ErrorKind::NotFound {
+                return true;
+            }
+            tell::failed(rt, b"cannot look for ", path, e, false);
+            false
+        }
     }
-    if os::errno() != libc::ENOENT {
-        tell::failed(b"cannot look for ", path, false);
-        return false;
-    }
-    true
 }
 
 // A new file of these bytes, by way of FILE.new; then its number is written. Answers that were saved beside an earlier file of this name go.
-fn make(path: &[u8], name: &[u8], last: &[u8], bytes: &[u8], text: &[u8]) {
-    let fd = files::lock(path, name, false);
-    if fd < 0 {
+fn make(rt: &HostRuntime, path: &[u8], name: &[u8], last: &[u8], bytes: &[u8], text: &[u8]) {
+    let Some(held) = files::lock(rt, path, name, false) else {
+        return;
+    };
+    if !is_free(rt, path) {
+        files::unlock(rt, held, name);
         return;
     }
-    if !is_free(path) {
-        files::unlock(fd, name);
-        return;
-    }
-    os::unlink(last);
-    if files::save(fd, name, path, bytes, false) {
-        if !io::write_all(STDOUT_FILENO, text) {
-            tell::done_but(b"cannot write the number for ", path);
+    files::unlink(rt, last);
+    if files::save(rt, held, name, path, bytes, false) {
+        if let Err(e) = files::write_all(&mut rt.stdout(), text) {
+            tell::done_but(rt, b"cannot write the number for ", path, e);
         }
     }
 }
 
 // Why no file is made.
-fn explain(number: u32) {
+fn explain(rt: &HostRuntime, number: u32) {
     if number == 15 {
         tell::say(
+            rt,
             b"desk: the upper bound is 2 to 10, the lower 1 to half of it. Nothing was done\n",
         );
     } else {
-        tell::say(b"desk: a store has 1 to 1024 cards and 1 to 2048 faults. Nothing was done\n");
+        tell::say(
+            rt,
+            b"desk: a store has 1 to 1024 cards and 1 to 2048 faults. Nothing was done\n",
+        );
     }
 }
 
 // The same from its limits and bounds.
 fn open(
+    rt: &HostRuntime,
     path: &[u8],
     name: &[u8],
     last: &[u8],
@@ -67,33 +74,34 @@ fn open(
     let said = r.said;
     let number = r.number;
     if number == 0 {
-        make(path, name, last, &file[..len], &text[..said]);
+        make(rt, path, name, last, &file[..len], &text[..said]);
         return;
     }
-    io::write_all(STDOUT_FILENO, &text[..said]);
-    explain(number);
+    let _ = files::write_all(&mut rt.stdout(), &text[..said]);
+    explain(rt, number);
 }
 
 // With the bounds 4 and 2.
-pub fn run(path: &[u8], name: &[u8], last: &[u8]) {
+pub fn run(rt: &HostRuntime, path: &[u8], name: &[u8], last: &[u8]) {
     let mut cards = [0u8; FIELD];
-    let c = os::arg(3, &mut cards);
+    let c = argument(rt, 3, &mut cards);
     let mut faults = [0u8; FIELD];
-    let f = os::arg(4, &mut faults);
-    open(path, name, last, &cards[..c], &faults[..f], b"4", b"2");
+    let f = argument(rt, 4, &mut faults);
+    open(rt, path, name, last, &cards[..c], &faults[..f], b"4", b"2");
 }
 
 // With the bounds that are given.
-pub fn run_bounded(path: &[u8], name: &[u8], last: &[u8]) {
+pub fn run_bounded(rt: &HostRuntime, path: &[u8], name: &[u8], last: &[u8]) {
     let mut cards = [0u8; FIELD];
-    let c = os::arg(3, &mut cards);
+    let c = argument(rt, 3, &mut cards);
     let mut faults = [0u8; FIELD];
-    let f = os::arg(4, &mut faults);
+    let f = argument(rt, 4, &mut faults);
     let mut upper = [0u8; FIELD];
-    let u = os::arg(5, &mut upper);
+    let u = argument(rt, 5, &mut upper);
     let mut lower = [0u8; FIELD];
-    let l = os::arg(6, &mut lower);
+    let l = argument(rt, 6, &mut lower);
     open(
+        rt,
         path,
         name,
         last,

@@ -2,21 +2,20 @@
 ghost use Rattle.std.specs.Prelude.{◌≡◌, ◌≤◌, length};
 ghost use Rattle.disk.specs.Desk.{most_bytes};
 
-use crate::{files, tell};
-use disk::{lasts, looks, runs};
-use libc::STDOUT_FILENO;
+use crate::{argument, files, tell};
+use disk::{lasts, looks, names, runs};
 
 // Writes what was asked for.
-fn show(text: &[u8], path: &[u8]) {
-    if !io::write_all(STDOUT_FILENO, text) {
-        tell::failed(b"cannot write what was asked of ", path, false);
+fn show(rt: &HostRuntime, text: &[u8], path: &[u8]) {
+    if let Err(e) = files::write_all(&mut rt.stdout(), text) {
+        tell::failed(rt, b"cannot write what was asked of ", path, e, false);
     }
 }
 
 // desk check FILE
-pub fn run_check(path: &[u8]) {
+pub fn run_check(rt: &HostRuntime, path: &[u8]) {
     let mut file = disk::file_room();
-    let got = files::load(path, &mut file, false);
+    let got = files::load(rt, path, &mut file, false);
     let len = got.len;
     if !got.ok {
         return;
@@ -24,54 +23,57 @@ pub fn run_check(path: &[u8]) {
     let mut text = [0u8; looks::TEXT];
     let r = looks::look(&file[..len], &mut text);
     let n = r.len;
-    show(&text[..n], path);
+    show(rt, &text[..n], path);
     if r.number != 0 {
-        tell::no_store(path, len);
+        tell::no_store(rt, path, len);
     }
 }
 
 // The saved answers, where they belong to the file.
-fn show_last(path: &[u8], file: &[u8], last: &[u8]) {
+fn show_last(rt: &HostRuntime, path: &[u8], file: &[u8], last: &[u8]) {
     if !lasts::belongs(file, last) {
-        tell::say(b"desk: the saved answers are not those of ");
-        tell::say(path);
-        tell::say(b" as it stands: the job they belong to was not saved, or ");
-        tell::say(path);
-        tell::say(b" was changed otherwise\n");
+        tell::say(rt, b"desk: the saved answers are not those of ");
+        tell::say(rt, path);
+        tell::say(
+            rt,
+            b" as it stands: the job they belong to was not saved, or ",
+        );
+        tell::say(rt, path);
+        tell::say(rt, b" was changed otherwise\n");
         return;
     }
     let start = lasts::answers_at(file, last);
-    show(&last[start..], path);
+    show(rt, &last[start..], path);
 }
 
 // The saved answers in FILE.last, against the file's bytes.
-fn compare_last(path: &[u8], file: &[u8], name: &[u8]) {
+fn compare_last(rt: &HostRuntime, path: &[u8], file: &[u8], name: &[u8]) {
     let mut last = lasts::room();
-    let got = files::load_last(path, name, &mut last);
+    let got = files::load_last(rt, path, name, &mut last);
     let len = got.len;
     if got.ok {
-        show_last(path, file, &last[..len]);
+        show_last(rt, path, file, &last[..len]);
     }
 }
 
 // desk last FILE, whose saved answers have this name
-pub fn run_last(path: &[u8], name: &[u8]) {
+pub fn run_last(rt: &HostRuntime, path: &[u8], name: &[u8]) {
     let mut file = disk::file_room();
-    let got = files::load(path, &mut file, false);
+    let got = files::load(rt, path, &mut file, false);
     let len = got.len;
     if !got.ok {
         return;
     }
-    compare_last(path, &file[..len], name);
+    compare_last(rt, path, &file[..len], name);
 }
 
 // One more file of a report, behind the others: its bytes are a sound store's, or it is said that they are not.
-fn add_file(i: usize, room: &mut [u8]) -> files::Got
+fn add_file(rt: &HostRuntime, i: usize, room: &mut [u8]) -> files::Got
     ensures { (result.len ≤ length room.new) × (result.len ≤ most_bytes) }
 {
-    let mut path = io::buffer();
-    let n = os::arg(i, &mut path);
-    let got = files::load(&path[..n], room, false);
+    let mut path = [0u8; names::PATH];
+    let n = argument(rt, i, &mut path);
+    let got = files::load(rt, &path[..n], room, false);
     let len = got.len;
     if !got.ok {
         return files::Got { len: 0, ok: false };
@@ -79,20 +81,20 @@ fn add_file(i: usize, room: &mut [u8]) -> files::Got
     let mut text = [0u8; looks::TEXT];
     let r = looks::look(&room[..len], &mut text);
     if r.number != 0 {
-        tell::no_store(&path[..n], len);
+        tell::no_store(rt, &path[..n], len);
         return files::Got { len: 0, ok: false };
     }
     files::Got { len, ok: true }
 }
 
 // All files of a report, one behind another, and their sizes: how many bytes they have.
-fn gather(room: &mut [u8], sizes: &mut [u32]) -> files::Got
+fn gather(rt: &HostRuntime, room: &mut [u8], sizes: &mut [u32]) -> files::Got
     ensures { (result.len ≤ length room.new) × (length sizes.new ≡ length sizes.old) }
 {
     let mut i: usize = 0;
     let mut at: usize = 0;
     while i < sizes.len() {
-        let got = add_file(i + 2, &mut room[at..]);
+        let got = add_file(rt, i + 2, &mut room[at..]);
         if !got.ok {
             return files::Got { len: 0, ok: false };
         }
@@ -104,26 +106,29 @@ fn gather(room: &mut [u8], sizes: &mut [u32]) -> files::Got
 }
 
 // The report over these files.
-fn report(bytes: &[u8], sizes: &[u32]) {
+fn report(rt: &HostRuntime, bytes: &[u8], sizes: &[u32]) {
     let mut out = runs::output();
     let r = runs::report_files(bytes, sizes, &mut out);
     let n = r.count as usize;
     if r.number != 0 {
-        tell::say(b"desk: the report could not be made. Nothing was done\n");
+        tell::say(
+            rt,
+            b"desk: the report could not be made. Nothing was done\n",
+        );
         return;
     }
-    show(&out[..n], b"the files");
+    show(rt, &out[..n], b"the files");
 }
 
 // desk report FILE.., so many of them, one to eight
-pub fn run_report(count: usize)
+pub fn run_report(rt: &HostRuntime, count: usize)
     requires { count ≤ 8 }
 {
     let mut room = runs::files_room();
     let mut sizes = [0u32; runs::FILES];
-    let got = gather(&mut room, &mut sizes[..count]);
+    let got = gather(rt, &mut room, &mut sizes[..count]);
     let len = got.len;
     if got.ok {
-        report(&room[..len], &sizes[..count]);
+        report(rt, &room[..len], &sizes[..count]);
     }
 }

@@ -9,7 +9,7 @@ use lib.Dec.{ltb}
 use lib.ListN.{length, get_or, length-append}
 use Rattle.rules.proofs.Tests.{by_cases}
 use Rattle.model.specs.Shape.{entries}
-use Rattle.model.specs.Model.{held, size}
+use Rattle.model.specs.Model.{size}
 use Rattle.model.specs.Layout.{cards_at, faults_at, length_for, shape_of, decode, sound}
 use Rattle.model.specs.Text.{digits, decimal}
 use Rattle.model.proofs.Sound.{sound_is}

@@ -1,6 +1,6 @@
 -- `rules::reader_code` meets its contract. The loop's invariant: the code so far, with the bytes that are left, makes the code of the whole.
 -- Assumes nothing.
-use Rattle.std.proofs.Common.{◌-◌, sym, refl, ◌∙◌, arith}
+use Rattle.std.proofs.Common.{sym, refl, ◌∙◌, arith}
 use Rattle.rules.specs.Code.{code_of}
 use Rattle.rules.proofs.Codes.{code_more, code_end}
 use Rattle.rules.proofs.reader_code.Goals as goal

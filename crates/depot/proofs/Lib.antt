@@ -1,2 +1,0 @@
--- What a read's answer says.
-pub mod Answers

@@ -1,0 +1,2 @@
+-- How many bytes were read.
+pub mod Counts

@@ -1,0 +1,17 @@
+-- `disk::opens::fresh` meets its contract: the file is made for the arguments, and its number is written.
+use Rattle.disk.specs.Desk.{terms_from, number_line, fresh_for, desk_new, Files}
+use native.Mathlib.Omega.{arith}
+use Rattle.disk.proofs.Making.{fresh_said}
+use Rattle.disk.proofs.Served.{puts_front}
+use Rattle.disk.proofs.Telling.{line_most}
+use Rattle.disk.proofs.opens.fresh.Goals as goal
+
+pub returns : goal.returns
+unfolding desk_new
+returns c =
+    let s = c.args in
+    let t = terms_from s.cards.now s.faults.now s.upper.now s.lower.now in
+    let r = c.fresh_for-r in
+    let m : Files (fresh_for t) s.file.now r.result.number r.result.len r.new.file =
+    rw (← c.argument-c.ensures, ← c.argument-f.ensures, ← c.argument-u.ensures, ← c.argument-l.ensures) r.ensures in
+    record { made = m; text_is = rw (fresh_said t, ← m.number_is) (puts_front (number_line r.result.number) (omega (arith, c.requires, line_most r.result.number)) c.put_line-said.ensures) }
