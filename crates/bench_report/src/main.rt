@@ -3,6 +3,8 @@
 
 ghost use Rattle.std.specs.Prelude.{◌≡◌, ◌+◌, ◌≤◌, min, length};
 
+use script::input;
+use std::io;
 use std::num::{wrapping_add_u32, wrapping_add_u64, wrapping_add_usize};
 use store::Wrote;
 
@@ -181,40 +183,44 @@ fn sum_of(text: &[u8]) -> u32 {
     sum
 }
 
-fn print_number(n: u64) {
-    io::write_all(1, b" ");
-    io::print_decimal(1, n);
+fn print_number(rt: &impl Print, n: u64) -> io::Result<()> {
+    print!(rt; " {n}")
 }
 
-fn print_sums(s: Sums, text: &[u8]) {
-    io::write_all(1, b"sum");
-    print_number(s.numbers);
-    print_number(s.reports);
-    print_number(s.bytes);
-    print_number(sum_of(text) as u64);
-    io::write_all(1, b"\n");
+fn print_sums(rt: &impl Print, s: Sums, text: &[u8]) -> io::Result<()> {
+    print!(rt; "sum")?;
+    print_number(rt, s.numbers)?;
+    print_number(rt, s.reports)?;
+    print_number(rt, s.bytes)?;
+    print_number(rt, sum_of(text) as u64)?;
+    println!(rt; "")
 }
 
 // The last text, if it is asked for, and the sums.
-fn print_all(written: u32, s: Sums, out: &[u8]) {
-    let n = io::count(s.last as isize, out);
+fn print_all(rt: &impl Print, written: u32, s: Sums, out: &[u8]) -> io::Result<()> {
+    let n = lesser(wide(s.last), out.len());
     if written != 0 {
-        io::write_all(1, &out[..n]);
+        rt.write_all(&out[..n])?;
     }
-    print_sums(s, &out[..n]);
+    print_sums(rt, s, &out[..n])
 }
 
-fn run_words(words: &[u32], scratch: &mut [u8; store::NEED], out: &mut [u8]) {
+fn run_words(
+    rt: &impl Print,
+    words: &[u32],
+    scratch: &mut [u8; store::NEED],
+    out: &mut [u8],
+) -> io::Result<()> {
     if words.len() < HEAD {
-        return;
+        return Ok(());
     }
     let group = wide(words[GROUP_AT]);
     if group < 1 {
-        return;
+        return Ok(());
     }
     let stores = wide(words[STORES_AT]);
     if words.len() - HEAD < stores {
-        return;
+        return Ok(());
     }
     let start = HEAD + stores;
     let sums = run_turns(
@@ -226,19 +232,25 @@ fn run_words(words: &[u32], scratch: &mut [u8; store::NEED], out: &mut [u8]) {
         scratch,
         out,
     );
-    print_all(words[WRITTEN_AT], sums, out);
+    print_all(rt, words[WRITTEN_AT], sums, out)
 }
 
-fn run_input(input: &[u8], words: &mut [u32], scratch: &mut [u8; store::NEED], out: &mut [u8]) {
+fn run_input(
+    rt: &impl Print,
+    input: &[u8],
+    words: &mut [u32],
+    scratch: &mut [u8; store::NEED],
+    out: &mut [u8],
+) -> io::Result<()> {
     let n = read_words(input, words);
-    run_words(&words[..n], scratch, out);
+    run_words(rt, &words[..n], scratch, out)
 }
 
-fn main() {
+fn main(rt: HostRuntime) -> io::Result<()> {
     let mut input = [0u8; 524288];
     let mut words = [0u32; 131072];
     let mut scratch = [0u8; store::NEED];
     let mut out = [0u8; 524288];
-    let n = io::read_full(0, &mut input);
-    run_input(&input[..n], &mut words, &mut scratch, &mut out);
+    let n = input::read_full(&rt, &mut input)?;
+    run_input(&rt, &input[..n], &mut words, &mut scratch, &mut out)
 }
