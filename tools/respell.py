@@ -105,8 +105,8 @@ class Names:
         return table
 
 
-def turn_tokens(text, names):
-    """A line of .antt code. A word behind the point of a value is a field of a record, and what Rattle names itself stays."""
+def turn_tokens(text, names, short):
+    """A line of .antt code; short has its file's short names for modules of the repository. A word behind the point of a value is a field of a record, and what Rattle names itself stays."""
 
     def one(m):
         word = m[0]
@@ -115,7 +115,8 @@ def turn_tokens(text, names):
         before = text[: m.start()]
         if before.endswith("."):
             owner = re.search(r"([^\s()\[\]{};,\"`λ@=|]*)\.$", before)
-            if owner[1].split(".")[0] in names.foreign:
+            first = owner[1].split(".")[0]
+            if first in names.foreign and first not in short:
                 return word
             if not owner[1][:1].isupper():
                 return snake(word) if word in names.fields else word
@@ -129,8 +130,10 @@ def turn_ticks(text, names):
 
 
 def turn_antt(text, names):
+    lines = text.split("\n")
+    short = {found[2] for found in map(imports, lines) if found and found[2] and names.own(found[0])}
     out = []
-    for line in text.split("\n"):
+    for line in lines:
         if imports(line):
             module, listed, _ = imports(line)
             if names.own(module) and ".declared" not in module and listed:
@@ -139,7 +142,7 @@ def turn_antt(text, names):
             out.append(line)
             continue
         code, mark, comment = line.partition("-- ") if line.lstrip().startswith("--") else (line, "", "")
-        out.append(turn_tokens(code, names) + mark + turn_ticks(comment, names))
+        out.append(turn_tokens(code, names, short) + mark + turn_ticks(comment, names))
     return "\n".join(out)
 
 

@@ -4,6 +4,8 @@
 ghost use Rattle.std.specs.Prelude.{◌≤◌, ◌<◌, length};
 
 use job::Tally;
+use script::input;
+use std::io;
 
 // A head is a letter, nine digits and LF.
 const HEAD: usize = 11;
@@ -107,24 +109,25 @@ fn added(s: Sums, number: u32, lines: u32, bytes: u64) -> Sums {
 }
 
 // The answers of a job, to standard output.
-fn write_answers(out: &[u8], bytes: u32) {
-    let n = io::count(bytes as isize, out);
-    io::write_all(1, &out[..n]);
+fn write_answers(rt: &impl Print, out: &[u8], bytes: u32) -> io::Result<()> {
+    let n = lesser(bytes as usize, out.len());
+    rt.write_all(&out[..n])
 }
 
 // A job, its answers written or not.
 fn run_job(
+    rt: &impl Print,
     words: &mut [u32],
     scratch: &mut [u8],
     out: &mut [u8],
     text: &[u8],
     written: bool,
     s: Sums,
-) -> Sums {
+) -> io::Result<Sums> {
     let ran = job::work(words, scratch, text, out, s.tally);
     let done = ran.done;
     if written {
-        write_answers(out, done.bytes);
+        write_answers(rt, out, done.bytes)?;
     }
     let tally = ran.tally;
     let after = Sums {
@@ -133,7 +136,7 @@ fn run_job(
         bytes: s.bytes,
         tally,
     };
-    added(after, done.number, done.lines, done.bytes as u64)
+    Ok(added(after, done.number, done.lines, done.bytes as u64))
 }
 
 // A checked Show.
@@ -155,6 +158,7 @@ fn run_check(words: &[u32], scratch: &mut [u8; store::NEED], s: Sums) -> Sums {
 }
 
 fn run_frame(
+    rt: &impl Print,
     words: &mut [u32],
     scratch: &mut [u8; store::NEED],
     out: &mut [u8],
@@ -162,24 +166,25 @@ fn run_frame(
     kind: u8,
     text: &[u8],
     s: Sums,
-) -> Sums {
+) -> io::Result<Sums> {
     match kind {
-        b'O' => added(
+        b'O' => Ok(added(
             s,
             store::open(words, store::MOST_CARDS, store::MOST_FAULTS, UPPER, LOWER),
             0,
             0,
-        ),
-        b'J' => run_job(words, scratch, out, text, false, s),
-        b'W' => run_job(words, scratch, out, text, true, s),
-        b'S' => run_show(words, scratch, room, text, s),
-        b'C' => run_check(words, scratch, s),
-        _ => s,
+        )),
+        b'J' => run_job(rt, words, scratch, out, text, false, s),
+        b'W' => run_job(rt, words, scratch, out, text, true, s),
+        b'S' => Ok(run_show(words, scratch, room, text, s)),
+        b'C' => Ok(run_check(words, scratch, s)),
+        _ => Ok(s),
     }
 }
 
 // Runs the frames from `from` on, up to the end or to an R frame.
 fn run_frames(
+    rt: &impl Print,
     input: &[u8],
     from: usize,
     words: &mut [u32],
@@ -187,24 +192,34 @@ fn run_frames(
     out: &mut [u8],
     room: &mut [u32],
     s: Sums,
-) -> Stop {
+) -> io::Result<Stop> {
     let mut at = from;
     let mut sums = s;
     while at < input.len() {
         let f = frame_at(input, at);
         if f.kind == REPEAT {
-            return Stop { at, sums };
+            return Ok(Stop { at, sums });
         }
         let start = f.start;
         let end = f.end;
-        sums = run_frame(words, scratch, out, room, f.kind, &input[start..end], sums);
+        sums = run_frame(
+            rt,
+            words,
+            scratch,
+            out,
+            room,
+            f.kind,
+            &input[start..end],
+            sums,
+        )?;
         at = end;
     }
-    Stop { at, sums }
+    Ok(Stop { at, sums })
 }
 
 // Runs the frames from `from` on so many times.
 fn run_turns(
+    rt: &impl Print,
     input: &[u8],
     from: usize,
     turns: u32,
@@ -213,65 +228,65 @@ fn run_turns(
     out: &mut [u8],
     room: &mut [u32],
     s: Sums,
-) -> Sums {
+) -> io::Result<Sums> {
     let mut sums = s;
     let mut turn: u32 = 0;
     while turn < turns {
-        let stop = run_frames(input, from, words, scratch, out, room, sums);
+        let stop = run_frames(rt, input, from, words, scratch, out, room, sums)?;
         sums = stop.sums;
         turn += 1;
     }
-    sums
+    Ok(sums)
 }
 
 fn run_input(
+    rt: &impl Print,
     input: &[u8],
     words: &mut [u32],
     scratch: &mut [u8; store::NEED],
     out: &mut [u8],
     room: &mut [u32],
     s: Sums,
-) -> Sums {
-    let stop = run_frames(input, 0, words, scratch, out, room, s);
+) -> io::Result<Sums> {
+    let stop = run_frames(rt, input, 0, words, scratch, out, room, s)?;
     let at = stop.at;
     let sums = stop.sums;
     if at < input.len() {
         let f = frame_at(input, at);
-        return run_turns(input, f.end, f.number, words, scratch, out, room, sums);
+        return run_turns(rt, input, f.end, f.number, words, scratch, out, room, sums);
     }
-    sums
+    Ok(sums)
 }
 
-fn print_number(n: u64) {
-    io::write_all(1, b" ");
-    io::print_decimal(1, n);
+fn print_number(rt: &impl Print, n: u64) -> io::Result<()> {
+    print!(rt; " {n}")
 }
 
-fn print_tally(t: Tally) {
-    print_number(t.entries);
-    print_number(t.withdrawals);
-    print_number(t.filings);
-    print_number(t.splits);
-    print_number(t.contractions);
-    print_number(t.comparisons);
+fn print_tally(rt: &impl Print, t: Tally) -> io::Result<()> {
+    print_number(rt, t.entries)?;
+    print_number(rt, t.withdrawals)?;
+    print_number(rt, t.filings)?;
+    print_number(rt, t.splits)?;
+    print_number(rt, t.contractions)?;
+    print_number(rt, t.comparisons)
 }
 
-fn print_sums(s: Sums) {
-    io::write_all(1, b"sum");
-    print_number(s.numbers);
-    print_number(s.lines);
-    print_number(s.bytes);
-    print_tally(s.tally);
-    io::write_all(1, b"\n");
+fn print_sums(rt: &impl Print, s: Sums) -> io::Result<()> {
+    print!(rt; "sum")?;
+    print_number(rt, s.numbers)?;
+    print_number(rt, s.lines)?;
+    print_number(rt, s.bytes)?;
+    print_tally(rt, s.tally)?;
+    println!(rt; "")
 }
 
-fn main() {
+fn main(rt: HostRuntime) -> io::Result<()> {
     let mut input = [0u8; 262144];
     let mut words = [0u32; store::MOST_WORDS];
     let mut scratch = [0u8; store::NEED];
     let mut out = [0u8; 65536];
     let mut room = [0u32; 2 * store::MOST_FAULTS as usize];
-    let n = io::read_full(0, &mut input);
+    let n = input::read_full(&rt, &mut input)?;
     let tally = Tally {
         entries: 0,
         withdrawals: 0,
@@ -287,12 +302,13 @@ fn main() {
         tally,
     };
     let sums = run_input(
+        &rt,
         &input[..n],
         &mut words,
         &mut scratch,
         &mut out,
         &mut room,
         none,
-    );
-    print_sums(sums);
+    )?;
+    print_sums(&rt, sums)
 }

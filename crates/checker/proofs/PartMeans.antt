@@ -13,7 +13,7 @@ use lib.Dec.{eqb}
 use lib.ListN.{length, get_or, length-append}
 use Rattle.rules.proofs.Tests.{both, all_of, eq?, lt?}
 use Rattle.model.specs.Shape.{Shape, need}
-use Rattle.model.specs.Lists.{join, from, total}
+use Rattle.model.specs.Lists.{join, from}
 use Rattle.model.specs.Layout.{free_at, free_faults_at, follow, last}
 use Rattle.model.specs.Meaning.{times, In, ExactlyOnce, Leads}
 use Rattle.model.proofs.Lists.{Every, every_map, map_every}

@@ -14,7 +14,7 @@ use Rattle.model.specs.Lists.{total}
 use Rattle.model.specs.Serial.{valid_fault}
 use Rattle.model.specs.Layout.{to_first, to_last, to_count, to_day, to_code, fault_width, last, card_word, fault_word}
 use Rattle.model.specs.Meaning.{In, ExactlyOnce, Leads, buckets_in, bucket_word, next_fault, bucket_cells, free_cells, history_cells, free_fault_cells, held_cells, filed_cells, serial_in, SoundAs}
-use Rattle.model.proofs.Sums.{bit, count, total_append, length_total}
+use Rattle.model.proofs.Sums.{bit, total_append, length_total}
 use Rattle.model.proofs.Walks.{times_count, one_in}
 use Rattle.model.proofs.Meaning.{apart_in_buckets}
 use Rattle.model.proofs.Shapes.{in_card}

@@ -12,7 +12,7 @@ use native.Mathlib.Omega.{arith}
 use lib.Dec.{eqb}
 use lib.ListN.{length, length-append}
 use Rattle.rules.proofs.Tests.{by_cases, both, all_of, eq?}
-use Rattle.model.specs.Lists.{join, total}
+use Rattle.model.specs.Lists.{join}
 use Rattle.model.specs.Layout.{follow, last}
 use Rattle.model.specs.Meaning.{Leads}
 use Rattle.model.proofs.Chains.{follow_none, follow_step}

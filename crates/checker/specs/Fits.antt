@@ -1,12 +1,11 @@
 -- What a cell has to be by itself, by the chain that it stands in.
 use Rattle.std.specs.Prelude.{◌≡◌, Bool, true, false, ◌&&◌, cond, List, ℕ, zero, suc, ◌+◌, ◌-◌, ◌<◌, eqb, take, get_or}
 use Rattle.rules.specs.Code.{code_of}
-use Rattle.rules.specs.Table.{top, address_of}
+use Rattle.rules.specs.Table.{address_of}
 use Rattle.model.specs.Lists.{between, all, from}
 use Rattle.model.specs.Shape.{Shape}
 use Rattle.model.specs.Serial.{valid_serial, valid_fault}
 use Rattle.model.specs.Layout.{maxp_at, p_at, to_next, to_length, to_day, to_code, segments_at, card_word, fault_word}
-use Rattle.reads.specs.declared.layout.Shape as told
 use Rattle.reads.specs.declared.header.Header.{Header}
 use Rattle.checker.specs.declared.fits.Chain.{Chain}
 use Rattle.checker.specs.declared.fits.Chain.TheVariants.{Free, Bucket, History}

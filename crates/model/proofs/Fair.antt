@@ -2,7 +2,7 @@
 -- counted of a store is a sum over its cards: `card_cells`, `card_count`, `fault_cells`, `fault_count`.
 use Prim.Native.Nat.{ℕ, ◌+◌, ◌*◌, ◌≤◌, ◌<◌}
 use mathlib.Core.Path.{◌≡◌, refl, sym, ap, ◌∙◌}
-use mathlib.Core.Logic.{◌⊎◌, ⊎_elim}
+use mathlib.Core.Logic.{⊎_elim}
 use mathlib.Core.List.{List, [], ◌∷◌, map}
 use mathlib.Core.Bool.{true, ◌||◌}
 use native.Mathlib.Omega.{arith}

@@ -9,7 +9,7 @@ use lib.Dec.{lit<}
 use lib.ListN.{length, get_or}
 use Rattle.model.specs.Serial.{serial_ok}
 use Rattle.model.specs.Shape.{Shape, card_width}
-use Rattle.model.specs.Model.{Store, Card, cards, held, faults_held, bucket, cells_of, fault_cells_of}
+use Rattle.model.specs.Model.{Store, Card, held, faults_held, bucket, cells_of, fault_cells_of}
 use Rattle.model.specs.Layout.{maxp_at, p_at, held_at, faults_held_at, free_at, free_faults_at, to_next, to_length, to_serial, to_first, to_last, to_count, Cell, head_or, chained, segments_at, cards_at, card_cell, header, front, first, last, card_word, read_card, read_chain}
 use Rattle.model.specs.Meaning.{bucket_word, bucket_cells, serial_in, bytes_in}
 use Rattle.model.proofs.Lists.{map_append, Every}

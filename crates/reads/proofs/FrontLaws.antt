@@ -11,7 +11,7 @@ use borrow.Author.Tests.{eqb-true, leb-true, eq-eqb, le-leb}
 use Rattle.rules.proofs.Tests.{both, all_of}
 use Rattle.model.specs.Bounds.{most_width}
 use Rattle.model.specs.Shape.{Shape, top_of, card_width}
-use Rattle.model.specs.Layout.{maxp_at, p_at, directory_offset_at, segments_offset_at, cards_offset_at, faults_offset_at, whole_length_at, bounds_at, rule_at, directory_at, segments_at, cards_at, faults_at, length_for, bounds_word, rule_word, shape_ok, shape_of, header, front, fair}
+use Rattle.model.specs.Layout.{maxp_at, p_at, directory_offset_at, segments_offset_at, cards_offset_at, faults_offset_at, whole_length_at, bounds_at, rule_at, directory_at, segments_at, cards_at, faults_at, length_for, bounds_word, rule_word, shape_ok, shape_of, header, front}
 use Rattle.model.proofs.Shapes.{width_most, top_most}
 use Rattle.reads.specs.declared.header.Header.{Header}
 use Rattle.reads.specs.Cells.{shape_in, Read}

@@ -2,7 +2,7 @@
 -- Two cards are compared as one of them with the other's key (`key_same`, `same_differs`).
 use mathlib.Core.Path.{◌≡◌, refl, sym, ap, ◌∙◌}
 use mathlib.Core.Logic.{⊎_elim}
-use mathlib.Core.Bool.{Bool, true, false, ◌&&◌}
+use mathlib.Core.Bool.{Bool, false, ◌&&◌}
 use mathlib.Core.List.{List}
 use Prim.Native.Nat.{ℕ, zero, suc, ◌+◌, ◌-◌, ◌≤◌, ◌<◌}
 use native.Mathlib.Omega.{arith}
@@ -10,7 +10,6 @@ use borrow.Author.Tests.{eqb-true, eq-eqb}
 use lib.Dec.{eqb}
 use lib.ListN.{get_or}
 use Rattle.rules.proofs.Tests.{by_cases, both, and_true, eq?}
-use Rattle.model.specs.Lists.{all, from}
 use Rattle.model.specs.Shape.{Shape}
 use Rattle.model.specs.Layout.{to_length, to_serial, serial_words, card_word}
 use Rattle.model.proofs.Lists.{all_from, from_all}

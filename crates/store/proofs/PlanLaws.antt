@@ -15,7 +15,7 @@ use Rattle.rules.proofs.States.{State, state_of, size_low}
 use Rattle.model.specs.Bounds.{cards_ever}
 use Rattle.model.specs.Shape.{Shape, top_of, faults_ever}
 use Rattle.model.specs.Serial.{valid_serial, valid_fault}
-use Rattle.model.specs.Model.{Store, Card, held, faults_held, size, bucket, chain_for, found, history_in, removed, contract_scan}
+use Rattle.model.specs.Model.{Store, Card, held, faults_held, bucket, chain_for, found, history_in, removed, contract_scan}
 use Rattle.model.specs.Layout.{held_at, faults_held_at, to_first, segments_at, follow, card_word, decode, sound}
 use Rattle.model.specs.Meaning.{next_card, next_fault}
 use Rattle.model.specs.Calls.{Answer, Step, gives, enter_step, file_step, show_step, withdraw_step}

@@ -1,9 +1,9 @@
 -- `check` meets its contract: over cleaned marks the tests decide soundness (`checked_is_sound`), and what is cleaned in the end does not show
 -- what was marked.
 use mathlib.Core.Path.{ap, ◌∙◌}
-use Prim.Native.Nat.{ℕ, ◌≤◌}
+use Prim.Native.Nat.{ℕ}
 use native.Mathlib.Omega.{arith}
-use lib.ListN.{length, drop}
+use lib.ListN.{drop}
 use Rattle.model.specs.Shape.{need}
 use Rattle.model.specs.Layout.{shape_of}
 use Rattle.model.specs.Calls.{cleaned}

@@ -1,7 +1,7 @@
 -- `job::run_lines` meets its contract: at each turn the lines left answer what all lines answer from the start (`Going`). Each line takes a byte of the text,
 -- which is the measure, and gives at most the longest answer, so both counts fit.
 use mathlib.Core.Path.{refl, ◌∙◌}
-use Prim.Native.Nat.{◌-◌, ◌≤◌, ◌<◌}
+use Prim.Native.Nat.{◌≤◌, ◌<◌}
 use native.Mathlib.Omega.{arith}
 use borrow.Author.Tests.{not-true, not-false}
 use lib.ListN.{length}
@@ -38,12 +38,11 @@ returns-then-not-t c =
     going_stop _ _ _ _ c.loop-at.invariant.2 c.loop-at-test.true c.line_end-end.ensures c.turn-t.ensures (not-true c.turn-t.result.fits c.if-not-t.true)
 
 pub loop-at-preserved : goal.loop-at-preserved
-loop-at-preserved c =
-    (
-      c.turn-t.auto.words ∙ c.loop-at.invariant.0,
-      c.turn-t.auto.room ∙ c.loop-at.invariant.1,
-      going_on _ _ _ _ c.loop-at.invariant.2 c.loop-at-test.true c.line_end-end.ensures c.turn-t.ensures (not-false c.turn-t.result.fits c.if-not-t.false),
-    )
+loop-at-preserved c = (
+  c.turn-t.auto.words ∙ c.loop-at.invariant.0,
+  c.turn-t.auto.room ∙ c.loop-at.invariant.1,
+  going_on _ _ _ _ c.loop-at.invariant.2 c.loop-at-test.true c.line_end-end.ensures c.turn-t.ensures (not-false c.turn-t.result.fits c.if-not-t.false),
+)
 
 pub returns : goal.returns
 returns c = going_end _ _ _ _ c.loop-at.invariant.2 c.loop-at-test.false

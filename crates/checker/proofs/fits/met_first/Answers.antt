@@ -1,6 +1,5 @@
 -- `cells::met_first` meets its contract: the loop's invariant is that what the search answers from here is what it answers from the start.
 use mathlib.Core.Path.{sym, ◌∙◌}
-use Prim.Native.Nat.{◌-◌}
 use native.Mathlib.Omega.{arith}
 use lib.Dec.{lit<}
 use Rattle.model.specs.Layout.{to_next}

@@ -1,6 +1,5 @@
 -- `front::directory_fits` meets its contract: the loop tests the entries; its invariant is that what is left to test decides.
 use mathlib.Core.Path.{refl, sym, ◌∙◌}
-use Prim.Native.Nat.{◌-◌}
 use native.Mathlib.Omega.{arith}
 use borrow.Author.Tests.{eq-eqb, ne_eqb}
 use Rattle.reads.proofs.Rows.{test_more, test_fails, test_ends}

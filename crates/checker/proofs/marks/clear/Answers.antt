@@ -1,6 +1,5 @@
 -- `marks::clear` meets its contract: the loop fills the list from the front, one store a turn.
 use mathlib.Core.Path.{refl, ◌∙◌}
-use Prim.Native.Nat.{◌-◌}
 use native.Mathlib.Omega.{arith}
 use borrow.Author.Fill.{fill_none, fill_more}
 use lib.ListN.{length-set}

@@ -2,7 +2,7 @@
 -- how many cells may yet come behind.
 use mathlib.Core.Path.{◌≡◌, sym, ◌∙◌}
 use mathlib.Core.Bool.{true, false}
-use Prim.Native.Nat.{◌-◌, ◌≤◌, ◌<◌}
+use Prim.Native.Nat.{◌≤◌, ◌<◌}
 use native.Mathlib.Omega.{arith}
 use Rattle.reads.specs.Cells.{shape_in}
 use Rattle.checker.specs.Fits.{cell_fits}

@@ -1,6 +1,5 @@
 -- `walks::walk_all` meets its contract: at each turn of the loop, what the walks answer from here is what they answer from the start (`Holding`).
 use mathlib.Core.Path.{sym, ◌∙◌}
-use Prim.Native.Nat.{◌-◌}
 use native.Mathlib.Omega.{arith}
 use Rattle.checker.proofs.WalkLaws.{begins, ends, refuses, kept_long, total_le, carries_on}
 use Rattle.checker.proofs.walks.walk_all.Goals as goal

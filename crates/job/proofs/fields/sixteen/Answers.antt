@@ -1,6 +1,5 @@
 -- `job::fields::sixteen` meets its contract. The loop's invariant: the bytes so far are the field's, the rest are still zero. Assumes nothing.
 use mathlib.Core.Path.{refl, ◌∙◌}
-use Prim.Native.Nat.{◌-◌}
 use native.Mathlib.Omega.{arith}
 use lib.ListN.{replicate}
 use Rattle.model.specs.Serial.{most_bytes}

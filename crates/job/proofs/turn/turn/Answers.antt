@@ -33,11 +33,10 @@ still_sound c =
     (line_sound w c.requires.0 l)
 
 pub put_answer-end-requires : goal.put_answer-end-requires
-put_answer-end-requires c =
-    (
-      omega (arith, c.list_pairs-count.ensures.few, c.list_pairs-count.auto.room, c.requires.1),
-      rw (← c.answer_len-long.ensures.is) c.if-out-at.false,
-    )
+put_answer-end-requires c = (
+  omega (arith, c.list_pairs-count.ensures.few, c.list_pairs-count.auto.room, c.requires.1),
+  rw (← c.answer_len-long.ensures.is) c.if-out-at.false,
+)
 
 pub returns : goal.returns
 returns c =

@@ -1,4 +1,4 @@
-use Prim.Native.Nat.{◌≤◌, ◌-◌}
+use Prim.Native.Nat.{◌≤◌}
 use Rattle.model.specs.Layout.{serial_words}
 use Rattle.reads.specs.Cells.{shape_in}
 use Rattle.reads.proofs.KeyLaws.{KeyFrom}

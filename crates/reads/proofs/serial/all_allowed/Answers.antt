@@ -1,6 +1,5 @@
 -- `serial::all_allowed` meets its contract. The loop's invariant: all bytes are allowed exactly if those that are left are.
 use mathlib.Core.Path.{sym, ◌∙◌}
-use Prim.Native.Nat.{◌-◌}
 use native.Mathlib.Omega.{arith}
 use Rattle.model.specs.Serial.{allowed}
 use Rattle.model.proofs.Lists.{all_stop, all_on, all_end}

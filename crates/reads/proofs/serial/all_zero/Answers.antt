@@ -1,6 +1,5 @@
 -- `serial::all_zero` meets its contract. The loop's invariant: all bytes are zero exactly if those that are left are.
 use mathlib.Core.Path.{sym, ◌∙◌}
-use Prim.Native.Nat.{◌-◌}
 use native.Mathlib.Omega.{arith}
 use borrow.Author.Tests.{eq-eqb, ne_eqb}
 use lib.Dec.{eqb}

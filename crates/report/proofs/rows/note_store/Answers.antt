@@ -1,7 +1,7 @@
 -- `report::rows::note_store` meets its contract: the loop keeps `Passing`, the words of the header say how many cards and faults the store holds, and
 -- the measure is how many cards are left.
 use mathlib.Core.Path.{refl, ap, ◌∙◌}
-use Prim.Native.Nat.{◌-◌, ◌<◌}
+use Prim.Native.Nat.{◌<◌}
 use native.Mathlib.Omega.{arith}
 use lib.Dec.{lit<}
 use lib.ListN.{length}

@@ -1,7 +1,6 @@
 use mathlib.Core.Path.{◌≡◌}
 use Prim.Native.Nat.{◌-◌}
 use lib.ListN.{length}
-use Rattle.model.specs.Model.{held}
 use Rattle.report.proofs.CardsNoted.{Passing}
 use Rattle.report.proofs.rows.note_store.Given as goal
 

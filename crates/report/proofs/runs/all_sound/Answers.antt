@@ -1,6 +1,5 @@
 -- `report::runs::all_sound` meets its contract: the loop keeps `Testing`, and its measure is how many lengths are left.
 use mathlib.Core.Path.{◌≡◌, sym, ap, ◌∙◌}
-use Prim.Native.Nat.{◌-◌}
 use native.Mathlib.Omega.{arith}
 use lib.ListN.{length, get_or}
 use Rattle.report.specs.Runs.{sound_at}

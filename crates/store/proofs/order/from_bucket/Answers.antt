@@ -1,11 +1,9 @@
 -- `order::from_bucket` meets its contract: at each turn the first card of the buckets from here on is that of the buckets from b on, since a bucket
 -- whose word is 0 has no card. The measure is how many buckets are left.
 use mathlib.Core.Path.{◌∙◌}
-use Prim.Native.Nat.{◌-◌}
 use native.Mathlib.Omega.{arith}
 use Rattle.store.proofs.PlanLaws.{size_room, bucket_below}
 use Rattle.store.proofs.OrderLaws.{from_stop, from_on, from_end}
-use Rattle.store.proofs.order.from_bucket.Goals.{After-struct_known-1}
 use Rattle.store.proofs.order.from_bucket.Goals as goal
 
 pub overflow_add-end : goal.overflow_add-end
@@ -30,7 +28,7 @@ returns c =
     from_end p.0 p.1 (omega (arith, c.loop-a-test.false)) ∙ c.loop-a.invariant
 
 pub overflow_add-a : goal.overflow_add-a
-overflow_add-a c = omega (arith, c.loop-a-test.true, overflow_add-end (goal.at.overflow_add-a c).After-struct_known-1)
+overflow_add-a c = let p = c.requires in omega (arith, c.loop-a-test.true, (size_room p.0 p.1).1, p.1.sized.room.most)
 
 pub loop-a-smaller : goal.loop-a-smaller
 loop-a-smaller c = omega (arith, c.loop-a-test.true)

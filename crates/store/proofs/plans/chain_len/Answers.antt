@@ -1,7 +1,7 @@
 -- `plans::chain_len` meets its contract: the cells counted and those that are left (`Along`) are the chain, and the measure is how many are left.
 use mathlib.Core.Path.{◌≡◌}
 use mathlib.Core.List.{List, ◌∷◌}
-use Prim.Native.Nat.{ℕ, ◌+◌, ◌-◌}
+use Prim.Native.Nat.{ℕ, ◌+◌}
 use native.Mathlib.Omega.{arith}
 use lib.ListN.{length}
 use Rattle.reads.proofs.AlongLaws.{along_start, along_from, along_to, along_less, along_below, along_next, along_end}

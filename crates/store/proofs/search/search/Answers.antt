@@ -1,7 +1,7 @@
 -- `search::search` meets its contract: at each turn of the loop, what the cells that are left give is what the chain gives (`Along`), and
 -- the measure is how many they are.
 use mathlib.Core.Path.{refl, sym, ◌∙◌}
-use Prim.Native.Nat.{◌-◌, ◌≤◌}
+use Prim.Native.Nat.{◌≤◌}
 use native.Mathlib.Omega.{arith}
 use Rattle.reads.proofs.AlongLaws.{along_from, along_to, along_less, along_below, along_stop, along_next, along_end}
 use Rattle.store.proofs.SearchLaws.{search_start, search_none, search_hit, search_on}

@@ -1,6 +1,5 @@
 -- `text::numbers::all_digits` meets its contract. The loop's invariant: all bytes are digits exactly if those that are left are. Assumes nothing.
 use mathlib.Core.Path.{sym, ◌∙◌}
-use Prim.Native.Nat.{◌-◌}
 use native.Mathlib.Omega.{arith}
 use Rattle.model.specs.Lists.{between}
 use Rattle.model.proofs.Lists.{all_stop, all_on, all_end}

@@ -1,7 +1,6 @@
 -- `text::numbers::number` meets its contract. The loop's invariant: the value so far, with the digits that are left,
 -- makes the value of the whole, and i digits make a value below 10 ^ i. Assumes nothing.
 use mathlib.Core.Path.{refl, sym, ◌∙◌}
-use Prim.Native.Nat.{◌-◌}
 use native.Mathlib.Omega.{arith}
 use Rattle.text.proofs.NumberLaws.{number_long, number_digit, value_more, value_end, value_below, value_grows}
 use Rattle.text.proofs.numbers.number.Goals as goal

@@ -1,7 +1,6 @@
 -- `text::pieces::piece_end` meets its contract. The loop's invariant: the piece that begins at the cursor ends where the piece that begins
 -- at `at` does, since no byte between them is the separator. Assumes nothing.
 use mathlib.Core.Path.{sym, ◌∙◌}
-use Prim.Native.Nat.{◌-◌}
 use native.Mathlib.Omega.{arith}
 use Rattle.text.proofs.Cursor.{end_here, end_on, end_out}
 use Rattle.text.proofs.pieces.piece_end.Goals as goal

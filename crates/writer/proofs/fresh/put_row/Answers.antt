@@ -1,6 +1,5 @@
 -- `fresh::put_row` meets its contract: after i turns the first i words are those of the row.
 use mathlib.Core.Path.{◌≡◌, refl, ◌∙◌}
-use Prim.Native.Nat.{◌-◌}
 use native.Mathlib.Omega.{arith}
 use borrow.Author.Rules.{rules}
 use lib.ListN.{length, length-set}

@@ -1,6 +1,5 @@
 -- `writes::write` meets its contract: after k turns the first k words are written, and nothing else is.
 use mathlib.Core.Path.{refl, sym, ap, ◌∙◌}
-use Prim.Native.Nat.{◌-◌}
 use native.Mathlib.Omega.{arith}
 use native.Mathlib.Numerals.{add-one}
 use lib.ListN.{length-set}
