@@ -16,23 +16,7 @@ use std::fmt;
 /// assert_eq!(Refusal::of(0), None);
 /// assert_eq!(Refusal::AlreadyHeld.to_string(), "a card with this serial is held already");
 /// ```
-///
-/// A later version may have more of them, so a `match` needs an arm for all others.
-///
-/// ```
-/// use card_store::{Limits, Refusal, Store};
-///
-/// let mut store = Store::new(Limits { cards: 8, faults: 8 })?;
-/// let advice = match store.show("007") {
-///     Ok(_) => "here it is",
-///     Err(Refusal::NotHeld) => "see whether zeros were lost",
-///     Err(_) => "ask",
-/// };
-/// assert_eq!(advice, "see whether zeros were lost");
-/// # Ok::<(), Refusal>(())
-/// ```
 #[derive(Clone, Copy, Debug, PartialEq, Eq, PartialOrd, Ord, Hash)]
-#[non_exhaustive]
 #[repr(u32)]
 pub enum Refusal {
     /// The store is to be opened for other than 1 to 1,024 cards and 1 to 2,048 faults.
@@ -69,7 +53,7 @@ pub enum Refusal {
 
 impl Refusal {
     /// All of them, from the lowest number to the highest.
-    pub const ALL: &'static [Refusal] = &[
+    pub const ALL: [Refusal; 15] = [
         Refusal::BadLimits,
         Refusal::BadLength,
         Refusal::NotSound,
@@ -94,7 +78,7 @@ impl Refusal {
 
     /// The refusal of this number, if there is one. 0 is no refusal: it was done.
     pub fn of(number: u32) -> Option<Refusal> {
-        Refusal::ALL.iter().copied().find(|refusal| refusal.number() == number)
+        Refusal::ALL.into_iter().find(|refusal| refusal.number() == number)
     }
 }
 
@@ -130,19 +114,3 @@ impl fmt::Display for Refusal {
 }
 
 impl Error for Refusal {}
-
-/// A `match` that has them all and no arm for others does not build outside of this crate.
-///
-/// ```compile_fail
-/// use card_store::Refusal::{self, *};
-///
-/// fn is_of_opening(refusal: Refusal) -> bool {
-///     match refusal {
-///         BadLimits | BadLength | BadBounds => true,
-///         NotSound | BadSerial | BadFault | AlreadyHeld | NotHeld | CardsFull | FaultsFull => false,
-///         ShortRoom | ShortScratch | BadLine | LongText | BadStores => false,
-///     }
-/// }
-/// ```
-#[cfg(doctest)]
-struct OthersMayCome;

@@ -380,6 +380,19 @@ fn histories_are_those_of_the_second_program() {
 }
 
 #[test]
+fn words_are_kept_and_taken_up_again() {
+    let mut store = store();
+    store.enter("007").expect("room");
+    store.file("007", 100, 12).expect("held");
+    let file: Vec<u8> = store.into_words().iter().flat_map(|word| word.to_le_bytes()).collect();
+
+    let words: Vec<u32> = file.chunks(4).map(|four| u32::from_le_bytes(four.try_into().expect("four"))).collect();
+    let mut again = Store::over(words, vec![0; SCRATCH]);
+    assert_eq!(again.check(), Ok(()));
+    assert_eq!(again.show("007").expect("held").faults, faults(&[(100, 12)]));
+}
+
+#[test]
 fn stores_are_kept_and_taken_up_again() {
     let mut store = store();
     store.enter("007").expect("room");
