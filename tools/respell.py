@@ -2,7 +2,7 @@
 """respell: brings the repository's own names in specs, proofs and clauses to one spelling.
 
 Words are in snake case, types and modules in camel case, and a prime is an apostrophe. It is run once at the top, after
-/opt/rattle/port/port.py, and goes by text:
+the kit's port.py, and goes by text:
 
 - in .antt files every name of the repository's own that begins with a small letter: `codeStep` and `code-step` become `code_step`;
 - in .rt files the same names where they are spelled in camel case, which no name of the program is;
