@@ -4,4 +4,4 @@ use lib.ListN.{length-replicate}
 use Rattle.disk.proofs.runs.output.Goals as goal
 
 pub returns : goal.returns
-returns c = sym (length-replicate {A = ℕ} 549989 0)
+returns c = sym (length-replicate {A = ℕ} _ 0)

@@ -45,5 +45,5 @@ returns c =
     let j = c.loop-i in
     let a = c.args in
     let e = read_end a.bytes.now j.words (words_of a.bytes.now) j.i j.at (omega arith) (omega arith) j.invariant.3 in
-    let small : Every (λ (x : ℕ). x < 256) a.bytes.now = at_every (λ (x : ℕ). x < 256) a.bytes.now 0 (λ i. omega (arith, c.shared_slice_known-1.given i)) in
+    let small : Every (λ (x : ℕ). x < 256) a.bytes.now = at_every (λ (x : ℕ). x < 256) a.bytes.now 0 (λ i. omega (arith, c.type_inv.bytes i)) in
     record { are = e; back = ap file_of e ∙ bytes_back a.bytes.now (length a.words.now) c.requires small }

@@ -44,5 +44,5 @@ returns c =
     let j = c.loop-i in
     let a = c.args in
     let e = write_end a.words.now j.bytes (file_of a.words.now) j.i j.at (omega arith) (omega arith) j.invariant.3 in
-    let small : Every (λ (x : ℕ). x < 4294967296) a.words.now = at_every (λ (x : ℕ). x < 4294967296) a.words.now 0 (λ i. omega (arith, c.shared_slice_known-1.given i)) in
+    let small : Every (λ (x : ℕ). x < 4294967296) a.words.now = at_every (λ (x : ℕ). x < 4294967296) a.words.now 0 (λ i. omega (arith, c.type_inv.words i)) in
     record { are = e; back = ap words_of e ∙ words_back a.words.now small }

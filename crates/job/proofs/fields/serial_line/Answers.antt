@@ -1,4 +1,5 @@
--- `job::fields::serial_line` meets its contract: `.keys1` to `.keys3` and `.rest` say which of the three letters the first field is, or that it is none. Assumes nothing.
+-- `job::fields::serial_line` meets its contract: each arm says which of the three letters the first field is, and the last that it is none. Assumes nothing.
+use Rattle.std.proofs.Common.{arith}
 use Rattle.model.specs.Job.{bad, enter, show, withdraw}
 use Rattle.job.specs.Told.{kind_in, serial_in, day_in, code_in}
 use Rattle.job.proofs.Forms.{as_line, two_enter, two_withdraw, two_show, two_other}
@@ -25,5 +26,4 @@ returns-in-83 c =
 pub returns-in_default : goal.returns-in_default
 returns-in_default c =
     let t = c.args in
-    let r = c.in_default.in_default-own.rest in
-    as_line _ bad _ (two_other t.op t.serial.now r.0.0.1 r.0.1 r.1) c.bad_line.ensures
+    as_line _ bad _ (two_other t.op t.serial.now (λ e. omega arith) (λ e. omega arith) (λ e. omega arith)) c.bad_line.ensures

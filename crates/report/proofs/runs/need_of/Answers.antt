@@ -29,8 +29,8 @@ ends c =
     let s = c.args in
     c.lesser.ensures ∙ ap (λ (n : ℕ). min n (length s.words.now - c.loop-i.at)) c.length_at.ensures
 
-inside : (c : After-lesser) → c.loop-i.at + c.lesser.result ≤ length c.args.words.now
-inside c = needing_in c.loop-i.invariant (let it : c.loop-i.i < length (take most_stores c.args.lengths.now) = omega (arith, c.loop-i-test.true, c.lesser-stores.ensures, length-take most_stores c.args.lengths.now) in it) (ends c)
+inside : (c : After-lesser) → c.loop-i.i < length (take most_stores c.args.lengths.now) → c.loop-i.at + c.lesser.result ≤ length c.args.words.now
+inside c one = needing_in c.loop-i.invariant one (ends c)
 
 pub loop-i-preserved : goal.loop-i-preserved
 loop-i-preserved c =
@@ -48,13 +48,13 @@ pub overflow_sub-words : goal.overflow_sub-words
 overflow_sub-words c = c.loop-i.invariant.inside
 
 pub overflow_add-end : goal.overflow_add-end
-overflow_add-end c = omega (arith, inside c)
+overflow_add-end c = let at = goal.at.overflow_add-end c in omega (arith, inside at.After-lesser (one_of at.In-loop-i))
 
 pub offset_bounds-words-at : goal.offset_bounds-words-at
-offset_bounds-words-at c = omega (arith, inside c)
+offset_bounds-words-at c = let at = goal.at.offset_bounds-words-at c in omega (arith, inside at.After-lesser (one_of at.In-loop-i))
 
 pub slice_bounds-need-end-in-loop-i : goal.slice_bounds-need-end-in-loop-i
-slice_bounds-need-end-in-loop-i c = omega (arith, inside c)
+slice_bounds-need-end-in-loop-i c = let at = goal.at.slice_bounds-need-end-in-loop-i c in omega (arith, inside at.After-lesser (one_of at.In-loop-i))
 
 pub overflow_add-i : goal.overflow_add-i
 overflow_add-i c = omega (arith, c.loop-i-test.true)

@@ -7,7 +7,7 @@ use Rattle.text.specs.Decimals.{Puts}
 use Rattle.text.proofs.Putting.{puts_then, puts_length}
 use Rattle.report.specs.Texts.{row_lines, text_of}
 use Rattle.report.proofs.TextLaws.{text_long, report_refused, report_written}
-use Rattle.report.proofs.texts.put_report.Goals.{After-slice_known-3-1}
+use Rattle.report.proofs.texts.put_report.Goals.{After-put_totals-q}
 use Rattle.report.proofs.texts.put_report.Goals as goal
 
 pub returns-then-out-n : goal.returns-then-out-n
@@ -16,7 +16,7 @@ returns-then-out-n c =
     rw c.refuse.ensures (report_refused (text_of t.rows.now t.t) t.out.now (omega (arith, text_long t.rows.now t.t)))
 
 -- lines and totals are one text
-whole : (c : After-slice_known-3-1) → let t = c.args in
+whole : (c : After-put_totals-q) → let t = c.args in
     Puts t.out.now 0 (text_of t.rows.now t.t) c.put_totals-q.result c.put_totals-q.new.out
 unfolding text_of
 whole c =
@@ -27,7 +27,7 @@ whole c =
 pub returns : goal.returns
 returns c =
     let t = c.args in
-    report_written (text_of t.rows.now t.t) t.out.now (omega (arith, text_long t.rows.now t.t)) (whole c)
+    report_written (text_of t.rows.now t.t) t.out.now (omega (arith, text_long t.rows.now t.t)) (whole (goal.at.returns c).After-put_totals-q)
 
 pub shape_of-out : goal.shape_of-out
-shape_of-out c = puts_length _ (whole c)
+shape_of-out c = puts_length _ (whole (goal.at.shape_of-out c).After-put_totals-q)

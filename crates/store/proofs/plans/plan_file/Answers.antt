@@ -4,16 +4,14 @@ use mathlib.Core.Path.{◌≡◌, sym, ap, ◌∙◌}
 use mathlib.Core.Bool.{true}
 use native.Mathlib.Omega.{arith}
 use borrow.Author.Tests.{not-true, not-false}
-use lib.ListN.{length, take}
+use lib.ListN.{take}
 use Rattle.model.specs.Serial.{valid_serial, valid_fault}
-use Rattle.model.specs.Layout.{decode}
-use Rattle.model.specs.Model.{history_in}
 use Rattle.model.proofs.Sound.{sound_is}
 use Rattle.model.specs.Shape.{Shape}
 use Rattle.reads.proofs.StoredLaws.{read_store}
 use Rattle.store.proofs.FindLaws.{HeldCell, is_held, held_cell}
 use Rattle.store.proofs.PlanLaws.{filed_word, held_history, file_invalid, file_bad, file_missing, file_full, file_accepted}
-use Rattle.store.proofs.plans.plan_file.Goals.{After-card_word-n, Else-not-s, Else-not-valid_fault, Else-not-valid_serial}
+use Rattle.store.proofs.plans.plan_file.Goals.{Else-not-s, Else-not-valid_fault, Else-not-valid_serial}
 use Rattle.store.proofs.plans.plan_file.Goals as goal
 
 pub returns-then-not-valid_serial : goal.returns-then-not-valid_serial
@@ -57,17 +55,14 @@ pub card_word-n-requires : goal.card_word-n-requires
 card_word-n-requires c =
     (c.header_of-h.ensures.sized, (cell (goal.at.card_word-n-requires c).Else-not-s).from_one, (cell (goal.at.card_word-n-requires c).Else-not-s).in_limit, omega (arith, c.header_of-h.ensures.sized.room))
 
-count : (c : After-card_word-n) → c.card_word-n.result
-    ≡ length (history_in (decode c.args.w.now) (take c.args.len c.args.serial))
-count c = c.card_word-n.ensures ∙ (let it : HeldCell c.args.w.now (take c.args.len c.args.serial) c.header_of-h.result c.find-s.result.cell = held_cell c.header_of-h.ensures (is_held (sound_is _ c.requires).0 _ c.find-s.ensures (let it : c.find-s.result.held ≡ true = not-false c.find-s.result.held c.if-not-s.false in it)) in it).count_word
-
 pub overflow_add-n : goal.overflow_add-n
 overflow_add-n c =
-    omega (arith, count c, held_history c.requires c.header_of-h.ensures (cell (goal.at.overflow_add-n c).Else-not-s))
+    let k = cell (goal.at.overflow_add-n c).Else-not-s in
+    omega (arith, c.card_word-n.ensures ∙ k.count_word, held_history c.requires c.header_of-h.ensures k)
 
 pub returns : goal.returns
 returns c =
     let r = c.header_of-h.ensures in
     rw c.accept.ensures
     (file_accepted _ c.requires r _ _ (valid (goal.at.returns c).Else-not-valid_serial) c.find-s.ensures (held (goal.at.returns c).Else-not-s) _ _ (valid_pair (goal.at.returns c).Else-not-valid_fault)
-    (λ k. c.if-word-h.false (c.word.ensures ∙ filed_word c.requires r ∙ k ∙ ap (λ (sh : Shape). sh.fault_limit) (read_store r).0)) _ (count (goal.at.returns c).After-card_word-n))
+    (λ k. c.if-word-h.false (c.word.ensures ∙ filed_word c.requires r ∙ k ∙ ap (λ (sh : Shape). sh.fault_limit) (read_store r).0)) _ (c.card_word-n.ensures ∙ (cell (goal.at.returns c).Else-not-s).count_word))

@@ -3,13 +3,11 @@ use mathlib.Core.Path.{◌≡◌, ◌∙◌}
 use mathlib.Core.Bool.{true}
 use native.Mathlib.Omega.{arith}
 use borrow.Author.Tests.{not-true, not-false}
-use lib.ListN.{length, take}
-use Rattle.model.specs.Layout.{decode}
-use Rattle.model.specs.Model.{history_in}
+use lib.ListN.{take}
 use Rattle.model.proofs.Sound.{sound_is}
 use Rattle.store.proofs.FindLaws.{HeldCell, is_held, held_cell}
 use Rattle.store.proofs.PlanLaws.{pairs_missing, pairs_small, pairs_accepted}
-use Rattle.store.proofs.plans.plan_pairs.Goals.{After-card_word-n, Else-not-s}
+use Rattle.store.proofs.plans.plan_pairs.Goals.{Else-not-s}
 use Rattle.store.proofs.plans.plan_pairs.Goals as goal
 
 pub returns-then-not-s : goal.returns-then-not-s
@@ -20,6 +18,7 @@ returns-then-not-s c =
 held : (c : Else-not-s) → c.find-s.result.held ≡ true
 held c = not-false c.find-s.result.held c.if-not-s.false
 
+-- past the first test the card is held, and its count is that of its history
 cell : (c : Else-not-s) → HeldCell c.args.w.now (take c.args.len c.args.serial)
     c.header_of-h.result c.find-s.result.cell
 cell c = held_cell c.header_of-h.ensures (is_held (sound_is _ c.requires.0).0 _ c.find-s.ensures (held c))
@@ -27,17 +26,12 @@ cell c = held_cell c.header_of-h.ensures (is_held (sound_is _ c.requires.0).0 _ 
 pub card_word-n-requires : goal.card_word-n-requires
 card_word-n-requires c = (c.header_of-h.ensures.sized, (cell c).from_one, (cell c).in_limit, omega (arith, c.header_of-h.ensures.sized.room))
 
--- the card's count is that of its history
-count : (c : After-card_word-n) → c.card_word-n.result
-    ≡ length (history_in (decode c.args.w.now) (take c.args.len c.args.serial))
-count c = c.card_word-n.ensures ∙ (let it : HeldCell c.args.w.now (take c.args.len c.args.serial) c.header_of-h.result c.find-s.result.cell = held_cell c.header_of-h.ensures (is_held (sound_is _ c.requires.0).0 _ c.find-s.ensures (let it : c.find-s.result.held ≡ true = not-false c.find-s.result.held c.if-not-s.false in it)) in it).count_word
-
 pub returns-then-room-n : goal.returns-then-room-n
 returns-then-room-n c =
     let p = c.requires in
-    rw c.refuse-then-room-n.ensures (pairs_small _ p.0 c.header_of-h.ensures _ _ p.1 c.find-s.ensures (held (goal.at.returns-then-room-n c).Else-not-s) _ _ (count (goal.at.returns-then-room-n c).After-card_word-n) c.if-room-n.true)
+    rw c.refuse-then-room-n.ensures (pairs_small _ p.0 c.header_of-h.ensures _ _ p.1 c.find-s.ensures (held (goal.at.returns-then-room-n c).Else-not-s) _ _ (c.card_word-n.ensures ∙ (cell (goal.at.returns-then-room-n c).Else-not-s).count_word) c.if-room-n.true)
 
 pub returns : goal.returns
 returns c =
     let p = c.requires in
-    rw c.accept.ensures (pairs_accepted _ p.0 c.header_of-h.ensures _ _ p.1 c.find-s.ensures (held (goal.at.returns c).Else-not-s) _ _ (count (goal.at.returns c).After-card_word-n) c.if-room-n.false)
+    rw c.accept.ensures (pairs_accepted _ p.0 c.header_of-h.ensures _ _ p.1 c.find-s.ensures (held (goal.at.returns c).Else-not-s) _ _ (c.card_word-n.ensures ∙ (cell (goal.at.returns c).Else-not-s).count_word) c.if-room-n.false)
