@@ -2,11 +2,11 @@
 ghost use Rattle.std.specs.Prelude.{◌≡◌, ◌+◌, ◌*◌, ◌≤◌, ◌<◌};
 ghost use Rattle.model.specs.Serial.{most_bytes};
 ghost use Rattle.model.specs.Layout.{to_serial, serial_words, card_word};
-ghost use Rattle.reads.specs.Cells.{shape_in, Sized, word_bytes, key_at, bytes_at, same_key};
+ghost use Rattle.reads.specs.Cells.{shape_in, word_bytes, key_at, bytes_at, same_key};
 ghost use Rattle.reads.specs.Chains.{has_key};
 
-use crate::header::Header;
-use crate::{cells, layout, serial};
+use crate::cells::View;
+use crate::{layout, serial};
 
 // The bytes of a serial that a word holds.
 const WORD_BYTES: usize = rules::SERIAL / layout::SERIAL_WORDS;
@@ -18,56 +18,59 @@ pub fn last_word(len: u32) -> usize
     (len as usize + rules::SERIAL - 1) / WORD_BYTES % layout::SERIAL_WORDS
 }
 
-// Word `last` of the serial in cell i, read in the words from that of the first cell on: a loop along a chain then keeps one address for
-// it, and another for the rest of the cells.
-pub fn end_word(w: &[u32], h: Header, i: u32, last: usize) -> u32
-    requires { Sized w.now h × (1 ≤ i) × (i ≤ h.cards) × (last < serial_words) }
-    ensures { result ≡ card_word (shape_in h) w.now i (last + to_serial) }
-{
-    let first = h.base + (last + layout::TO_SERIAL);
-    let cell = (i - 1) as usize;
-    let ends = &w[first..];
-    ends[h.width * cell]
-}
+impl<'a> View<'a> {
+    // Word `last` of the serial in cell i, read in the words from that of the first cell on: a loop along a chain then keeps one address for
+    // it, and another for the rest of the cells.
+    pub fn end_word(&self, i: u32, last: usize) -> u32
+        requires { (1 ≤ i) × (i ≤ self.now.header.cards) × (last < serial_words) }
+        ensures { result ≡ card_word (shape_in self.now.header) self.now.words.now i (last + to_serial) }
+    {
+        let first = self.header.base + (last + layout::TO_SERIAL);
+        let cell = (i - 1) as usize;
+        let ends = &self.words[first..];
+        ends[self.header.width * cell]
+    }
 
-// The four words of the serial in cell i.
-pub fn key_at(w: &[u32], h: Header, i: u32) -> [u32; layout::SERIAL_WORDS]
-    requires { Sized w.now h × (1 ≤ i) × (i ≤ h.cards) }
-    ensures { result ≡ key_at (shape_in h) w.now i }
-{
-    [
-        cells::card_word(w, h, i, layout::TO_SERIAL),
-        cells::card_word(w, h, i, layout::TO_SERIAL + 1),
-        cells::card_word(w, h, i, layout::TO_SERIAL + 2),
-        cells::card_word(w, h, i, layout::TO_SERIAL + 3),
-    ]
-}
+    // The four words of the serial in cell i.
+    pub fn key_at(&self, i: u32) -> [u32; layout::SERIAL_WORDS]
+        requires { (1 ≤ i) × (i ≤ self.now.header.cards) }
+        ensures { result ≡ key_at (shape_in self.now.header) self.now.words.now i }
+    {
+        [
+            self.card_word(i, layout::TO_SERIAL),
+            self.card_word(i, layout::TO_SERIAL + 1),
+            self.card_word(i, layout::TO_SERIAL + 2),
+            self.card_word(i, layout::TO_SERIAL + 3),
+        ]
+    }
 
-// The sixteen bytes of the card in cell i.
-pub fn bytes_at(w: &[u32], h: Header, i: u32) -> [u8; 16]
-    requires { Sized w.now h × (1 ≤ i) × (i ≤ h.cards) }
-    ensures { result ≡ bytes_at (shape_in h) w.now i }
-{
-    let [a, b, c, d] = key_at(w, h, i);
-    serial::unpack(a, b, c, d)
-}
+    // The sixteen bytes of the card in cell i.
+    pub fn bytes_at(&self, i: u32) -> [u8; 16]
+        requires { (1 ≤ i) × (i ≤ self.now.header.cards) }
+        ensures { result ≡ bytes_at (shape_in self.now.header) self.now.words.now i }
+    {
+        let [a, b, c, d] = self.key_at(i);
+        serial::unpack(a, b, c, d)
+    }
 
-// Whether card i has a serial of this length and these four words: all bytes are compared and the length, never codes.
-pub fn has_key(w: &[u32], h: Header, i: u32, len: u32, key: [u32; layout::SERIAL_WORDS]) -> bool
-    requires { Sized w.now h × (1 ≤ i) × (i ≤ h.cards) }
-    ensures { result ≡ has_key (shape_in h) w.now i len key }
-{
-    (0..layout::SERIAL_WORDS).rev().all(|k| cells::card_word(w, h, i, k + layout::TO_SERIAL)
-        == key[k])
-        && cells::card_word(w, h, i, layout::TO_LENGTH) == len
-}
+    // Whether card i has a serial of this length and these four words: all bytes are compared and the length, never codes.
+    pub fn has_key(&self, i: u32, len: u32, key: [u32; layout::SERIAL_WORDS]) -> bool
+        requires { (1 ≤ i) × (i ≤ self.now.header.cards) }
+        ensures { result ≡ has_key (shape_in self.now.header) self.now.words.now i len key }
+    {
+        (0..layout::SERIAL_WORDS)
+            .rev()
+            .all(|k| self.card_word(i, k + layout::TO_SERIAL) == key[k])
+            && self.card_word(i, layout::TO_LENGTH) == len
+    }
 
-// Whether two cards have the same serial: its length and its four words. The word that holds the last byte tells most of them apart.
-pub fn same_key(w: &[u32], h: Header, i: u32, j: u32) -> bool
-    requires { Sized w.now h × (1 ≤ i) × (i ≤ h.cards) × (1 ≤ j) × (j ≤ h.cards) }
-    ensures { result ≡ same_key (shape_in h) w.now i j }
-{
-    let len = cells::card_word(w, h, j, layout::TO_LENGTH);
-    let last = last_word(len);
-    end_word(w, h, i, last) == end_word(w, h, j, last) && has_key(w, h, i, len, key_at(w, h, j))
+    // Whether two cards have the same serial: its length and its four words. The word that holds the last byte tells most of them apart.
+    pub fn same_key(&self, i: u32, j: u32) -> bool
+        requires { (1 ≤ i) × (i ≤ self.now.header.cards) × (1 ≤ j) × (j ≤ self.now.header.cards) }
+        ensures { result ≡ same_key (shape_in self.now.header) self.now.words.now i j }
+    {
+        let len = self.card_word(j, layout::TO_LENGTH);
+        let last = last_word(len);
+        self.end_word(i, last) == self.end_word(j, last) && self.has_key(i, len, self.key_at(j))
+    }
 }

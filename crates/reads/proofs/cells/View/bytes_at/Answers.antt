@@ -1,6 +1,6 @@
--- `keys::bytes_at` meets its contract: it unpacks the four words of the serial.
+-- `View::bytes_at` meets its contract: it unpacks the four words of the serial.
 use Rattle.reads.specs.Cells.{bytes_at}
-use Rattle.reads.proofs.keys.bytes_at.Goals as goal
+use Rattle.reads.proofs.cells.View.bytes_at.Goals as goal
 
 pub returns : goal.returns
 unfolding bytes_at

@@ -1,8 +1,8 @@
--- `keys::same_key` meets its contract: one word that differs decides; else card i is compared with the key of card j.
+-- `View::same_key` meets its contract: one word that differs decides; else card i is compared with the key of card j.
 use mathlib.Core.Path.{sym, ◌∙◌}
 use borrow.Author.Tests.{ne_eqb}
 use Rattle.reads.proofs.KeyLaws.{key_same, same_differs}
-use Rattle.reads.proofs.keys.same_key.Goals as goal
+use Rattle.reads.proofs.cells.View.same_key.Goals as goal
 
 pub returns-then-end_word : goal.returns-then-end_word
 returns-then-end_word c = c.has_key.ensures ∙ rw (c.key_at.ensures, c.card_word-len.ensures) (key_same _ _ _ _)
