@@ -51,8 +51,7 @@ pub extern "C" fn reader_open(
 ) -> u32
     ensures { Opens (open_call words.old (asked cards faults upper lower)) result words.new }
 {
-    let outcome = store::open(words, cards, faults, upper, lower);
-    store::number_of(outcome)
+    store::number_of(store::open(words, cards, faults, upper, lower))
 }
 
 // What every call asks first: 11 for the scratch, 3 for words that are not those of a sound store, else 0.
