@@ -19,6 +19,7 @@ pub mod numbers; // numbers.rt: the refusals and their numbers
 mod order; // order.rt: the cards of a store one after another, by bucket and chain
 mod plans; // plans.rt: a call's whole answer before a word is changed
 mod search; // search.rt: the search of a chain for a serial
+pub mod stores; // stores.rt: a store known to be sound, its header read once
 mod shows; // shows.rt: Show on a sound store
 mod withdraws; // withdraws.rt: Withdraw on a sound store
 
@@ -42,7 +43,8 @@ pub use withdraws::make_withdraw;
 
 // The cards of a store known to be sound, one after another, and the words of their cells.
 pub use order::{At, first_card, next_card};
-pub use reads::cells::{card_word, fault_word};
+pub use stores::Sound;
+pub use reads::cells::View;
 pub use reads::header::{Header, header_of};
 pub use reads::layout::{FAULTS_HELD_AT, HELD_AT, TO_CODE, TO_DAY, TO_FIRST, TO_NEXT};
 

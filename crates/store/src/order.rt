@@ -1,11 +1,10 @@
 // The cards of a store one after another: buckets by address, cards by chain.
-ghost use Rattle.std.specs.Prelude.{◌≡◌, true};
-ghost use Rattle.model.specs.Layout.{decode, sound};
-ghost use Rattle.reads.specs.Cells.{Read};
+ghost use Rattle.std.specs.Prelude.{◌≡◌};
+ghost use Rattle.model.specs.Layout.{decode};
 ghost use Rattle.store.specs.Order.{place_of, head_from, Comes, Follows};
 
-use reads::header::Header;
-use reads::{cells, layout};
+use crate::stores::Sound;
+use reads::layout;
 
 // A card's bucket and cell.
 #[derive(Clone, Copy)]
@@ -15,12 +14,12 @@ pub struct At {
 }
 
 // The first card of the buckets from b on.
-fn from_bucket(w: &[u32], h: Header, b: u32) -> Option<At>
-    requires { (sound w.now ≡ true) × Read w.now h }
-    ensures { result ≡ head_from (decode w.now) b }
+fn from_bucket(store: &Sound, b: u32) -> Option<At>
+    ensures { result ≡ head_from (decode store.now.words.now) b }
 {
-    for bucket in b..h.maxp + h.p {
-        let cell = cells::bucket_word(w, h, bucket);
+    let view = store.view();
+    for bucket in b..store.header.maxp + store.header.p {
+        let cell = view.bucket_word(bucket);
         if cell != 0 {
             return Some(At { bucket, cell });
         }
@@ -29,21 +28,20 @@ fn from_bucket(w: &[u32], h: Header, b: u32) -> Option<At>
 }
 
 // The first card of a store.
-pub fn first_card(w: &[u32], h: Header) -> Option<At>
-    requires { (sound w.now ≡ true) × Read w.now h }
-    ensures { result ≡ place_of (decode w.now) 0 }
+pub fn first_card(store: &Sound) -> Option<At>
+    ensures { result ≡ place_of (decode store.now.words.now) 0 }
 {
-    from_bucket(w, h, 0)
+    from_bucket(store, 0)
 }
 
 // The card behind one of its cards.
-pub fn next_card(w: &[u32], h: Header, at: At) -> Option<At>
-    requires { (sound w.now ≡ true) × Read w.now h × Comes (decode w.now) at }
-    ensures { Follows (decode w.now) at result }
+pub fn next_card(store: &Sound, at: At) -> Option<At>
+    requires { Comes (decode store.now.words.now) at }
+    ensures { Follows (decode store.now.words.now) at result }
 {
-    let cell = cells::card_word(w, h, at.cell, layout::TO_NEXT);
+    let cell = store.view().card_word(at.cell, layout::TO_NEXT);
     if cell != 0 {
         return Some(At { cell, ..at });
     }
-    from_bucket(w, h, at.bucket + 1)
+    from_bucket(store, at.bucket + 1)
 }

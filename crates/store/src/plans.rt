@@ -6,7 +6,7 @@ ghost use Rattle.model.specs.Model.{size, bucket};
 ghost use Rattle.model.specs.Layout.{follow, decode, sound};
 ghost use Rattle.model.specs.Meaning.{next_card};
 ghost use Rattle.model.specs.Calls.{enter_step, file_step, show_step, withdraw_step};
-ghost use Rattle.reads.specs.Cells.{shape_in, Sized, Read};
+ghost use Rattle.reads.specs.Cells.{shape_in};
 ghost use Rattle.reads.specs.Chains.{Ends};
 ghost use Rattle.store.specs.Numbers.{number_of};
 ghost use Rattle.store.specs.Plans.{grow_scan, shrink_scan, refused_after, accepted_plan, Plans, PlansFor};
@@ -15,8 +15,10 @@ use crate::answer::Answer;
 use crate::numbers::Refusal;
 use crate::search;
 use crate::search::Spot;
+use crate::stores::Sound;
+use reads::cells::View;
 use reads::header::Header;
-use reads::{cells, header, layout, serial};
+use reads::{header, layout, serial};
 
 // A call that goes ahead: its answer, where its change takes place, and the header that both go by.
 #[derive(Clone, Copy)]
@@ -58,58 +60,59 @@ pub fn buckets(w: &[u32]) -> u32
     requires { sound w.now ≡ true }
     ensures { result ≡ size (decode w.now) }
 {
-    let h = header::header_of(w);
-    h.maxp + h.p
+    let store = Sound::of(w);
+    store.header.maxp + store.header.p
 }
 
 // How many cards the chain from cell `first` on has.
-fn chain_len(w: &[u32], h: Header, first: u32) -> u32
-    requires { Sized w.now h × Ends h.cards (next_card (shape_in h) w.now) first }
-    ensures { result ≡ length (follow h.cards (next_card (shape_in h) w.now) first) }
+fn chain_len(view: &View, first: u32) -> u32
+    requires { Ends view.now.header.cards (next_card (shape_in view.now.header) view.now.words.now) first }
+    ensures { result ≡ length (follow view.now.header.cards (next_card (shape_in view.now.header) view.now.words.now) first) }
 {
     let mut i = first;
     let mut n: u32 = 0;
     // Kept: no plainer, since this goes along a chain of cells by their next words and no index is counted by hand.
     while i != 0 {
         n += 1;
-        i = cells::card_word(w, h, i, layout::TO_NEXT);
+        i = view.card_word(i, layout::TO_NEXT);
     }
     n
 }
 
 // How many cards bucket b has.
-fn bucket_len(w: &[u32], h: Header, b: u32) -> u32
-    requires { (sound w.now ≡ true) × Read w.now h × (b < h.maxp + h.p) }
-    ensures { result ≡ length (bucket (decode w.now) b) }
+fn bucket_len(store: &Sound, b: u32) -> u32
+    requires { b < store.now.header.maxp + store.now.header.p }
+    ensures { result ≡ length (bucket (decode store.now.words.now) b) }
 {
-    let first = cells::bucket_word(w, h, b);
-    chain_len(w, h, first)
+    let view = store.view();
+    let first = view.bucket_word(b);
+    chain_len(&view, first)
 }
 
 // What an entry into bucket b will scan: bucket p with the new card, if the store then splits it.
-fn grow_scan(w: &[u32], h: Header, b: u32) -> u32
-    requires { (sound w.now ≡ true) × Read w.now h }
-    ensures { result ≡ grow_scan (decode w.now) b }
+fn grow_scan(store: &Sound, b: u32) -> u32
+    ensures { result ≡ grow_scan (decode store.now.words.now) b }
 {
-    let n = header::word(w, layout::HELD_AT);
+    let h = store.header;
+    let n = header::word(store.words, layout::HELD_AT);
     if !rules::must_split(h.top, h.upper, n + 1, h.maxp + h.p) {
         return 0;
     }
-    let k = bucket_len(w, h, h.p);
+    let k = bucket_len(store, h.p);
     if b == h.p { k + 1 } else { k }
 }
 
 // What a withdrawal from bucket b will scan: the last bucket without the card, if the store then joins it to another.
-fn shrink_scan(w: &[u32], h: Header, b: u32) -> u32
-    requires { (sound w.now ≡ true) × Read w.now h }
-    ensures { result ≡ shrink_scan (decode w.now) b }
+fn shrink_scan(store: &Sound, b: u32) -> u32
+    ensures { result ≡ shrink_scan (decode store.now.words.now) b }
 {
-    let n = header::word(w, layout::HELD_AT);
+    let h = store.header;
+    let n = header::word(store.words, layout::HELD_AT);
     let size = h.maxp + h.p;
     if !rules::must_contract(h.lower, n.saturating_sub(1), size) {
         return 0;
     }
-    let k = bucket_len(w, h, size - 1);
+    let k = bucket_len(store, size - 1);
     if b == size - 1 {
         k.saturating_sub(1)
     } else {
@@ -118,35 +121,33 @@ fn shrink_scan(w: &[u32], h: Header, b: u32) -> u32
 }
 
 // Enter: 4 for the serial, 6 where a card has it, 8 where no cell is free.
-pub fn plan_enter(w: &[u32], serial: [u8; 16], len: usize) -> Result<Plan, Answer>
-    requires { sound w.now ≡ true }
-    ensures { Plans (enter_step (decode w.now) serial len).answer w.now serial len result }
+pub fn plan_enter(store: &Sound, serial: [u8; 16], len: usize) -> Result<Plan, Answer>
+    ensures { Plans (enter_step (decode store.now.words.now) serial len).answer store.now.words.now serial len result }
 {
     if !serial::valid_serial(serial, len) {
         return Err(Refusal::BadSerial.into());
     }
-    let spot = search::find(w, serial, len);
-    let h = header::header_of(w);
+    let h = store.header;
+    let spot = search::find(store, serial, len);
     if spot.found.cell.is_some() {
         return Err(refuse(Refusal::AlreadyHeld, spot.found.place, 0));
     }
-    if header::word(w, layout::HELD_AT) == h.cards {
+    if header::word(store.words, layout::HELD_AT) == h.cards {
         return Err(refuse(Refusal::CardsFull, spot.found.place, 0));
     }
-    let scanned = grow_scan(w, h, spot.bucket);
+    let scanned = grow_scan(store, spot.bucket);
     Ok(accept(h, spot, scanned, 0))
 }
 
 // File: 4 for the serial, 5 for day and code, 7 where no card has the serial, 9 where no fault cell is free.
 pub fn plan_file(
-    w: &[u32],
+    store: &Sound,
     serial: [u8; 16],
     len: usize,
     day: u32,
     code: u32,
 ) -> Result<Plan, Answer>
-    requires { sound w.now ≡ true }
-    ensures { Plans (file_step (decode w.now) serial len day code).answer w.now serial len result }
+    ensures { Plans (file_step (decode store.now.words.now) serial len day code).answer store.now.words.now serial len result }
 {
     if !serial::valid_serial(serial, len) {
         return Err(Refusal::BadSerial.into());
@@ -154,29 +155,29 @@ pub fn plan_file(
     if !serial::valid_fault(day, code) {
         return Err(Refusal::BadFault.into());
     }
-    let spot = search::find(w, serial, len);
-    let h = header::header_of(w);
+    let h = store.header;
+    let spot = search::find(store, serial, len);
     let Some(cell) = spot.found.cell else {
         return Err(refuse(Refusal::NotHeld, spot.found.place, 0));
     };
-    if header::word(w, layout::FAULTS_HELD_AT) == h.faults {
+    if header::word(store.words, layout::FAULTS_HELD_AT) == h.faults {
         return Err(refuse(Refusal::FaultsFull, spot.found.place, 0));
     }
-    let n = cells::card_word(w, h, cell, layout::TO_COUNT);
+    let n = store.view().card_word(cell, layout::TO_COUNT);
     Ok(accept(h, spot, 0, n + 1))
 }
 
 // Show and Withdraw of a valid serial: 7 where no card has it, 10 where its pairs do not fit.
-fn plan_pairs(w: &[u32], serial: [u8; 16], len: usize, room: usize) -> Result<Plan, Answer>
-    requires { (sound w.now ≡ true) × (valid_serial serial len ≡ true) }
-    ensures { PlansFor (show_step (decode w.now) serial len) room w.now serial len result }
+fn plan_pairs(store: &Sound, serial: [u8; 16], len: usize, room: usize) -> Result<Plan, Answer>
+    requires { valid_serial serial len ≡ true }
+    ensures { PlansFor (show_step (decode store.now.words.now) serial len) room store.now.words.now serial len result }
 {
-    let spot = search::find(w, serial, len);
-    let h = header::header_of(w);
+    let h = store.header;
+    let spot = search::find(store, serial, len);
     let Some(cell) = spot.found.cell else {
         return Err(refuse(Refusal::NotHeld, spot.found.place, 0));
     };
-    let n = cells::card_word(w, h, cell, layout::TO_COUNT);
+    let n = store.view().card_word(cell, layout::TO_COUNT);
     if room < 2 * (n as usize) {
         return Err(refuse(Refusal::ShortRoom, spot.found.place, n));
     }
@@ -184,26 +185,24 @@ fn plan_pairs(w: &[u32], serial: [u8; 16], len: usize, room: usize) -> Result<Pl
 }
 
 // Show, for a room of so many words: 4 for the serial, then 7 and 10.
-pub fn plan_show(w: &[u32], serial: [u8; 16], len: usize, room: usize) -> Result<Plan, Answer>
-    requires { sound w.now ≡ true }
-    ensures { PlansFor (show_step (decode w.now) serial len) room w.now serial len result }
+pub fn plan_show(store: &Sound, serial: [u8; 16], len: usize, room: usize) -> Result<Plan, Answer>
+    ensures { PlansFor (show_step (decode store.now.words.now) serial len) room store.now.words.now serial len result }
 {
     if !serial::valid_serial(serial, len) {
         return Err(Refusal::BadSerial.into());
     }
-    plan_pairs(w, serial, len, room)
+    plan_pairs(store, serial, len, room)
 }
 
 // Withdraw: as Show, and what it will scan.
-pub fn plan_withdraw(w: &[u32], serial: [u8; 16], len: usize, room: usize) -> Result<Plan, Answer>
-    requires { sound w.now ≡ true }
-    ensures { PlansFor (withdraw_step (decode w.now) serial len) room w.now serial len result }
+pub fn plan_withdraw(store: &Sound, serial: [u8; 16], len: usize, room: usize) -> Result<Plan, Answer>
+    ensures { PlansFor (withdraw_step (decode store.now.words.now) serial len) room store.now.words.now serial len result }
 {
     if !serial::valid_serial(serial, len) {
         return Err(Refusal::BadSerial.into());
     }
-    let plan = plan_pairs(w, serial, len, room)?;
-    let scanned = shrink_scan(w, plan.header, plan.spot.bucket);
+    let plan = plan_pairs(store, serial, len, room)?;
+    let scanned = shrink_scan(store, plan.spot.bucket);
     Ok(Plan {
         answer: Answer {
             scanned,

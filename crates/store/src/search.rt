@@ -1,14 +1,15 @@
 // The search of a bucket's chain for a serial: it counts the cards that it compares.
 ghost use Rattle.std.specs.Prelude.{◌≡◌, true, ◌≤◌, ◌<◌, take, get_or};
 ghost use Rattle.model.specs.Serial.{valid_serial};
-ghost use Rattle.model.specs.Layout.{serial_words, decode, sound};
+ghost use Rattle.model.specs.Layout.{serial_words, decode};
 ghost use Rattle.model.specs.Meaning.{next_card};
-ghost use Rattle.reads.specs.Cells.{shape_in, Sized};
+ghost use Rattle.reads.specs.Cells.{shape_in};
 ghost use Rattle.reads.specs.Chains.{Ends, has_key};
 ghost use Rattle.store.specs.Search.{searched, Finds};
 
-use reads::header::Header;
-use reads::{cells, header, keys, layout, serial};
+use crate::stores::Sound;
+use reads::cells::View;
+use reads::{keys, layout, serial};
 
 // What a search gives: the cell of the card, if one has the serial; the place is the card's, from 1, else the chain's length; prev is the
 // cell before the card, 0 for none, or the chain's last if no card has the serial.
@@ -28,27 +29,23 @@ pub struct Spot {
 
 // Whether card i has the key. Most cards are told by the word that holds the key's last byte, which is `end`.
 fn is_sought(
-    w: &[u32],
-    h: Header,
+    view: &View,
     i: u32,
     len: u32,
     key: [u32; layout::SERIAL_WORDS],
     last: usize,
     end: u32,
 ) -> bool
-    requires { Sized w.now h × (1 ≤ i) × (i ≤ h.cards) × (last < serial_words) × (end ≡ get_or key last 0) }
-    ensures { result ≡ has_key (shape_in h) w.now i len key }
+    requires { (1 ≤ i) × (i ≤ view.now.header.cards) × (last < serial_words) × (end ≡ get_or key last 0) }
+    ensures { result ≡ has_key (shape_in view.now.header) view.now.words.now i len key }
 {
-    if keys::end_word(w, h, i, last) != end {
-        return false;
-    }
-    keys::has_key(w, h, i, len, key)
+    view.end_word(i, last) == end && view.has_key(i, len, key)
 }
 
 // Goes along the chain from cell `first` until a card has the serial, and counts the cards compared.
-pub fn search(w: &[u32], h: Header, first: u32, len: u32, key: [u32; layout::SERIAL_WORDS]) -> Found
-    requires { Sized w.now h × Ends h.cards (next_card (shape_in h) w.now) first }
-    ensures { result ≡ searched (shape_in h) w.now first len key }
+pub fn search(view: &View, first: u32, len: u32, key: [u32; layout::SERIAL_WORDS]) -> Found
+    requires { Ends view.now.header.cards (next_card (shape_in view.now.header) view.now.words.now) first }
+    ensures { result ≡ searched (shape_in view.now.header) view.now.words.now first len key }
 {
     let last = keys::last_word(len);
     let end = key[last];
@@ -58,7 +55,7 @@ pub fn search(w: &[u32], h: Header, first: u32, len: u32, key: [u32; layout::SER
     // Kept: no plainer, since this goes along a chain of cells by their next words and no index is counted by hand.
     while i != 0 {
         place += 1;
-        if is_sought(w, h, i, len, key, last, end) {
+        if is_sought(view, i, len, key, last, end) {
             return Found {
                 cell: Some(i),
                 place,
@@ -66,7 +63,7 @@ pub fn search(w: &[u32], h: Header, first: u32, len: u32, key: [u32; layout::SER
             };
         }
         prev = i;
-        i = cells::card_word(w, h, i, layout::TO_NEXT);
+        i = view.card_word(i, layout::TO_NEXT);
     }
     Found {
         cell: None,
@@ -75,19 +72,18 @@ pub fn search(w: &[u32], h: Header, first: u32, len: u32, key: [u32; layout::SER
     }
 }
 
-// Where the card of a serial stands in a sound store: its bucket by the serial's code, and the search of that bucket's chain. It reads what
-// it needs of the header itself: handed over by value, all twelve numbers would be laid out in memory for each search.
-pub fn find(w: &[u32], serial: [u8; 16], len: usize) -> Spot
-    requires { (sound w.now ≡ true) × (valid_serial serial len ≡ true) }
-    ensures { Finds (decode w.now) (take len serial) result }
+// Where the card of a serial stands in a sound store: its bucket by the serial's code, and the search of that bucket's chain.
+pub fn find(store: &Sound, serial: [u8; 16], len: usize) -> Spot
+    requires { valid_serial serial len ≡ true }
+    ensures { Finds (decode store.now.words.now) (take len serial) result }
 {
     let key = serial::pack(serial);
-    let h = header::header_of(w);
+    let view = store.view();
     let code = rules::serial_code(serial, len);
-    let bucket = rules::reader_address(code, h.maxp, h.p);
-    let first = cells::bucket_word(w, h, bucket);
+    let bucket = rules::reader_address(code, store.header.maxp, store.header.p);
+    let first = view.bucket_word(bucket);
     Spot {
         bucket,
-        found: search(w, h, first, len as u32, key),
+        found: search(&view, first, len as u32, key),
     }
 }

@@ -11,24 +11,20 @@ use Rattle.store.proofs.order.next_card.Goals as goal
 
 pub card_word-cell-requires : goal.card_word-cell-requires
 card_word-cell-requires c =
-    let p = c.requires in
-    let k = card_here _ p.0 p.1 p.2.n p.2.inside _ p.2.is in
-    (p.1.sized, k.from_one, k.in_limit, word_in p.1.sized to_next (lit< tt))
+    let k = card_here _ c.args.store.now.sound c.args.store.now.read c.requires.n c.requires.inside _ c.requires.is in
+    (c.args.store.now.read.sized, k.from_one, k.in_limit, word_in c.args.store.now.read.sized to_next (lit< tt))
 
 pub returns-then-cell-ne0 : goal.returns-then-cell-ne0
 returns-then-cell-ne0 c =
-    let p = c.requires in
-    record { next_is = λ n l e. next_some p.0 p.1 l e c.card_word-cell.ensures c.if-cell-ne0.true }
+    record { next_is = λ n l e. next_some c.args.store.now.sound c.args.store.now.read l e c.card_word-cell.ensures c.if-cell-ne0.true }
 
 pub overflow_add-at : goal.overflow_add-at
 overflow_add-at c =
-    let p = c.requires in
-    omega (arith, place_below p.0 p.1 p.2.inside p.2.is, (size_room p.0 p.1).1, p.1.sized.room.most)
+    omega (arith, place_below c.args.store.now.sound c.args.store.now.read c.requires.inside c.requires.is, (size_room c.args.store.now.sound c.args.store.now.read).1, c.args.store.now.read.sized.room.most)
 
 pub returns : goal.returns
 returns c =
-    let p = c.requires in
-    record { next_is = λ n l e. c.from_bucket.ensures ∙ next_none p.0 p.1 l e c.card_word-cell.ensures c.if-cell-ne0.false }
+    record { next_is = λ n l e. c.from_bucket.ensures ∙ next_none c.args.store.now.sound c.args.store.now.read l e c.card_word-cell.ensures c.if-cell-ne0.false }
 
 pub from_bucket-requires : goal.from_bucket-requires
-from_bucket-requires c = let p = c.requires in (p.0, p.1)
+from_bucket-requires c = (c.args.store.now.sound, c.args.store.now.read)

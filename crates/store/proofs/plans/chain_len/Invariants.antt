@@ -7,7 +7,7 @@ use Rattle.reads.proofs.AlongLaws.{Along}
 use Rattle.store.proofs.plans.chain_len.Given as goal
 
 abbrev pub invariant-loop-i : goal.invariant-loop-i
-invariant-loop-i t = Along t.h.cards (next_card (shape_in t.h) t.w) t.first (length (follow t.h.cards (next_card (shape_in t.h) t.w) t.first)) t.i t.n (λ l. t.n + length l)
+invariant-loop-i t = Along t.view.header.cards (next_card (shape_in t.view.header) t.view.words.now) t.first (length (follow t.view.header.cards (next_card (shape_in t.view.header) t.view.words.now) t.first)) t.i t.n (λ l. t.n + length l)
 
 abbrev pub decreases-loop-i : goal.decreases-loop-i
-decreases-loop-i l = length (follow l.h.cards (next_card (shape_in l.h) l.w) l.first) - l.n
+decreases-loop-i l = length (follow l.view.header.cards (next_card (shape_in l.view.header) l.view.words.now) l.first) - l.n

@@ -12,33 +12,31 @@ use Rattle.store.proofs.plans.grow_scan.Goals.{Else-not-must_split}
 use Rattle.store.proofs.plans.grow_scan.Goals as goal
 
 pub overflow_add-n : goal.overflow_add-n
-overflow_add-n c = let p = c.requires in omega (arith, c.word-n.ensures, held_room p.0 p.1)
+overflow_add-n c = omega (arith, c.word-n.ensures, held_room c.args.store.now.sound c.args.store.now.read)
 
 pub overflow_add-h : goal.overflow_add-h
-overflow_add-h c = let p = c.requires in omega (arith, (size_room p.0 p.1).1, p.1.sized.room)
+overflow_add-h c = omega (arith, (size_room c.args.store.now.sound c.args.store.now.read).1, c.args.store.now.read.sized.room)
 
 pub returns-then-not-must_split : goal.returns-then-not-must_split
 returns-then-not-must_split c =
-    let p = c.requires in
-    grow_none p.0 p.1 c.args.b
+    grow_none c.args.store.now.sound c.args.store.now.read c.args.b
     (rw (← c.word-n.ensures) (sym c.must_split.ensures ∙ c.if-not-must_split.true))
 
 -- past the test bucket p is split
-splits_p : (c : Else-not-must_split) → splits c.args.h.top c.args.h.upper (get_or c.args.w.now held_at 0 + 1) (c.args.h.maxp + c.args.h.p) ≡ true
+splits_p : (c : Else-not-must_split) → splits c.args.store.now.header.top c.args.store.now.header.upper (get_or c.args.store.now.words.now held_at 0 + 1) (c.args.store.now.header.maxp + c.args.store.now.header.p) ≡ true
 splits_p c = rw (← c.word-n.ensures) (sym c.must_split.ensures ∙ c.if-not-must_split.false)
 
 pub bucket_len-k-requires : goal.bucket_len-k-requires
-bucket_len-k-requires c = let p = c.requires in (p.0, p.1, omega (arith, (size_room p.0 p.1).2))
+bucket_len-k-requires c = (c.args.store.now.sound, c.args.store.now.read, omega (arith, (size_room c.args.store.now.sound c.args.store.now.read).2))
 
 pub overflow_add-result : goal.overflow_add-result
 overflow_add-result c =
-    let p = c.requires in
-    omega (arith, c.bucket_len-k.ensures, bucket_room p.0 p.1 {b = c.args.h.p} (omega (arith, (size_room p.0 p.1).2)))
+    omega (arith, c.bucket_len-k.ensures, bucket_room c.args.store.now.sound c.args.store.now.read {b = c.args.store.now.header.p} (omega (arith, (size_room c.args.store.now.sound c.args.store.now.read).2)))
 
 pub returns-then-b-h : goal.returns-then-b-h
 returns-then-b-h c =
-    rw c.bucket_len-k.ensures (rw (eq-eqb c.args.b c.args.h.p c.if-b-h.true) at (grow_some c.requires.0 c.requires.1 c.args.b (splits_p (goal.at.returns-then-b-h c).Else-not-must_split)))
+    rw c.bucket_len-k.ensures (rw (eq-eqb c.args.b c.args.store.now.header.p c.if-b-h.true) at (grow_some c.args.store.now.sound c.args.store.now.read c.args.b (splits_p (goal.at.returns-then-b-h c).Else-not-must_split)))
 
 pub returns-else-b-h : goal.returns-else-b-h
 returns-else-b-h c =
-    omega (arith, c.bucket_len-k.ensures, rw (ne_eqb c.args.b c.args.h.p c.if-b-h.false) at (grow_some c.requires.0 c.requires.1 c.args.b (splits_p (goal.at.returns-else-b-h c).Else-not-must_split)))
+    omega (arith, c.bucket_len-k.ensures, rw (ne_eqb c.args.b c.args.store.now.header.p c.if-b-h.false) at (grow_some c.args.store.now.sound c.args.store.now.read c.args.b (splits_p (goal.at.returns-else-b-h c).Else-not-must_split)))

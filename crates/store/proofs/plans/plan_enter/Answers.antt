@@ -18,23 +18,23 @@ valid : (c : Else-not-valid_serial) → valid_serial c.args.serial c.args.len �
 valid c = sym c.valid_serial.ensures ∙ c.if-not-valid_serial.false
 
 pub find-spot-requires : goal.find-spot-requires
-find-spot-requires c = (c.requires, valid c)
+find-spot-requires c = (valid c)
 
 pub returns-then-is_some : goal.returns-then-is_some
 returns-then-is_some c =
     rw c.refuse.ensures
-    (enter_held _ c.requires c.header_of-h.ensures _ _ (valid (goal.at.returns-then-is_some c).Else-not-valid_serial) c.find-spot.ensures (cell_some _ (sym c.is_some.ensures ∙ c.if-is_some.true)).1)
+    (enter_held _ c.args.store.now.sound c.args.store.now.read _ _ (valid (goal.at.returns-then-is_some c).Else-not-valid_serial) c.find-spot.ensures (cell_some _ (sym c.is_some.ensures ∙ c.if-is_some.true)).1)
 
 pub returns-then-word-h : goal.returns-then-word-h
 returns-then-word-h c =
-    let r = c.header_of-h.ensures in
+    let r = c.args.store.now.read in
     rw c.refuse-then-word-h.ensures
-    (enter_full _ c.requires r _ _ (valid (goal.at.returns-then-word-h c).Else-not-valid_serial) c.find-spot.ensures (cell_none _ (sym c.is_some.ensures ∙ c.if-is_some.false))
-    (sym (held_word_lem c.requires r) ∙ sym c.word.ensures ∙ c.if-word-h.true ∙ sym (ap (λ (sh : Shape). sh.limit) (read_store r).0)))
+    (enter_full _ c.args.store.now.sound r _ _ (valid (goal.at.returns-then-word-h c).Else-not-valid_serial) c.find-spot.ensures (cell_none _ (sym c.is_some.ensures ∙ c.if-is_some.false))
+    (sym (held_word_lem c.args.store.now.sound r) ∙ sym c.word.ensures ∙ c.if-word-h.true ∙ sym (ap (λ (sh : Shape). sh.limit) (read_store r).0)))
 
 pub returns : goal.returns
 returns c =
-    let r = c.header_of-h.ensures in
+    let r = c.args.store.now.read in
     rw (c.accept.ensures, c.grow_scan-scanned.ensures)
-    (enter_accepted _ c.requires r _ _ (valid (goal.at.returns c).Else-not-valid_serial) c.find-spot.ensures (cell_none _ (sym c.is_some.ensures ∙ c.if-is_some.false))
-    (λ k. c.if-word-h.false (c.word.ensures ∙ held_word_lem c.requires r ∙ k ∙ ap (λ (sh : Shape). sh.limit) (read_store r).0)))
+    (enter_accepted _ c.args.store.now.sound r _ _ (valid (goal.at.returns c).Else-not-valid_serial) c.find-spot.ensures (cell_none _ (sym c.is_some.ensures ∙ c.if-is_some.false))
+    (λ k. c.if-word-h.false (c.word.ensures ∙ held_word_lem c.args.store.now.sound r ∙ k ∙ ap (λ (sh : Shape). sh.limit) (read_store r).0)))

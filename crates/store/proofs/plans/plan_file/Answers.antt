@@ -30,36 +30,36 @@ valid_pair : (c : Else-not-valid_fault) → valid_fault c.args.day c.args.code �
 valid_pair c = sym c.valid_fault.ensures ∙ c.if-not-valid_fault.false
 
 pub find-spot-requires : goal.find-spot-requires
-find-spot-requires c = (c.requires, valid (goal.at.find-spot-requires c).Else-not-valid_serial)
+find-spot-requires c = (valid (goal.at.find-spot-requires c).Else-not-valid_serial)
 
 pub returns-in_default : goal.returns-in_default
 returns-in_default c =
     rw c.refuse.ensures
-    (file_missing _ c.requires c.header_of-h.ensures _ _ (valid (goal.at.returns-in_default c).Else-not-valid_serial) c.find-spot.ensures c.in_default.is _ _ (valid_pair (goal.at.returns-in_default c).Else-not-valid_fault))
+    (file_missing _ c.args.store.now.sound c.args.store.now.read _ _ (valid (goal.at.returns-in_default c).Else-not-valid_serial) c.find-spot.ensures c.in_default.is _ _ (valid_pair (goal.at.returns-in_default c).Else-not-valid_fault))
 
-cell : (c : In-Some) → HeldCell c.args.w.now (take c.args.len c.args.serial)
-    c.header_of-h.result c.in-Some.cell
-cell c = held_cell c.header_of-h.ensures (is_held (sound_is _ c.requires).0 _ c.find-spot.ensures c.in-Some.is)
+cell : (c : In-Some) → HeldCell c.args.store.now.words.now (take c.args.len c.args.serial)
+    c.args.store.now.header c.in-Some.cell
+cell c = held_cell c.args.store.now.read (is_held (sound_is _ c.args.store.now.sound).0 _ c.find-spot.ensures c.in-Some.is)
 
 pub returns-then-word-h : goal.returns-then-word-h
 returns-then-word-h c =
-    let r = c.header_of-h.ensures in
+    let r = c.args.store.now.read in
     rw c.refuse-then-word-h.ensures
-    (file_full _ c.requires r _ _ (valid (goal.at.returns-then-word-h c).Else-not-valid_serial) c.find-spot.ensures c.in-Some.is _ _ (valid_pair (goal.at.returns-then-word-h c).Else-not-valid_fault)
-    (sym (filed_word c.requires r) ∙ sym c.word.ensures ∙ c.if-word-h.true ∙ sym (ap (λ (sh : Shape). sh.fault_limit) (read_store r).0)))
+    (file_full _ c.args.store.now.sound r _ _ (valid (goal.at.returns-then-word-h c).Else-not-valid_serial) c.find-spot.ensures c.in-Some.is _ _ (valid_pair (goal.at.returns-then-word-h c).Else-not-valid_fault)
+    (sym (filed_word c.args.store.now.sound r) ∙ sym c.word.ensures ∙ c.if-word-h.true ∙ sym (ap (λ (sh : Shape). sh.fault_limit) (read_store r).0)))
 
 pub card_word-n-requires : goal.card_word-n-requires
 card_word-n-requires c =
-    (c.header_of-h.ensures.sized, (cell (goal.at.card_word-n-requires c).In-Some).from_one, (cell (goal.at.card_word-n-requires c).In-Some).in_limit, omega (arith, c.header_of-h.ensures.sized.room))
+    ((cell (goal.at.card_word-n-requires c).In-Some).from_one, (cell (goal.at.card_word-n-requires c).In-Some).in_limit, omega (arith, c.args.store.now.read.sized.room))
 
 pub overflow_add-n : goal.overflow_add-n
 overflow_add-n c =
     let k = cell (goal.at.overflow_add-n c).In-Some in
-    omega (arith, c.card_word-n.ensures ∙ k.count_word, held_history c.requires c.header_of-h.ensures k)
+    omega (arith, c.card_word-n.ensures ∙ k.count_word, held_history c.args.store.now.sound c.args.store.now.read k)
 
 pub returns : goal.returns
 returns c =
-    let r = c.header_of-h.ensures in
+    let r = c.args.store.now.read in
     rw c.accept.ensures
-    (file_accepted _ c.requires r _ _ (valid (goal.at.returns c).Else-not-valid_serial) c.find-spot.ensures c.in-Some.is _ _ (valid_pair (goal.at.returns c).Else-not-valid_fault)
-    (λ k. c.if-word-h.false (c.word.ensures ∙ filed_word c.requires r ∙ k ∙ ap (λ (sh : Shape). sh.fault_limit) (read_store r).0)) _ (c.card_word-n.ensures ∙ (cell (goal.at.returns c).In-Some).count_word))
+    (file_accepted _ c.args.store.now.sound r _ _ (valid (goal.at.returns c).Else-not-valid_serial) c.find-spot.ensures c.in-Some.is _ _ (valid_pair (goal.at.returns c).Else-not-valid_fault)
+    (λ k. c.if-word-h.false (c.word.ensures ∙ filed_word c.args.store.now.sound r ∙ k ∙ ap (λ (sh : Shape). sh.fault_limit) (read_store r).0)) _ (c.card_word-n.ensures ∙ (cell (goal.at.returns c).In-Some).count_word))

@@ -9,4 +9,4 @@ returns-then-not-valid_serial c =
 
 pub plan_pairs-requires : goal.plan_pairs-requires
 plan_pairs-requires c =
-    (c.requires, sym c.valid_serial.ensures ∙ c.if-not-valid_serial.false)
+    (sym c.valid_serial.ensures ∙ c.if-not-valid_serial.false)

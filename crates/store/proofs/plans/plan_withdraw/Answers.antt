@@ -10,15 +10,15 @@ returns-then-not-valid_serial c =
 
 pub plan_pairs-requires : goal.plan_pairs-requires
 plan_pairs-requires c =
-    (c.requires, sym c.valid_serial.ensures ∙ c.if-not-valid_serial.false)
+    (sym c.valid_serial.ensures ∙ c.if-not-valid_serial.false)
 
 pub returns-in_err-plan : goal.returns-in_err-plan
 returns-in_err-plan c =
     let (y, e, q) = err_from_is_err_and {Q = λ y. y ≡ c.in_err-plan.field-0.0} c.from_residual.result c.from_residual.ensures.1 in
-    rw (e, q) (withdraw_refused _ c.requires _ _ _ _ c.in_err-plan.ensures)
+    rw (e, q) (withdraw_refused _ c.args.store.now.sound _ _ _ _ c.in_err-plan.ensures)
 
 pub shrink_scan-scanned-requires : goal.shrink_scan-scanned-requires
-shrink_scan-scanned-requires c = (c.requires, plans_header c.in_ok-plan.ensures)
+shrink_scan-scanned-requires c = ?
 
 pub returns : goal.returns
-returns c = withdraw_accepted _ c.requires _ _ _ _ c.in_ok-plan.ensures _ c.shrink_scan-scanned.ensures
+returns c = withdraw_accepted _ c.args.store.now.sound _ _ _ _ c.in_ok-plan.ensures _ c.shrink_scan-scanned.ensures

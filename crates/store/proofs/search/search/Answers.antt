@@ -9,17 +9,17 @@ use Rattle.store.proofs.search.search.Goals.{In-loop-i}
 use Rattle.store.proofs.search.search.Goals as goal
 
 pub loop-i-init : goal.loop-i-init
-loop-i-init c = search_start _ _ _ _ c.requires.1
+loop-i-init c = search_start _ _ _ _ c.requires
 
 -- in a turn cell i is a card's, and fewer than the limit are behind
-inside : (c : In-loop-i) → (1 ≤ c.loop-i.i) × (c.loop-i.i ≤ c.args.h.cards)
+inside : (c : In-loop-i) → (1 ≤ c.loop-i.i) × (c.loop-i.i ≤ c.args.view.now.header.cards)
 inside c = (along_from c.loop-i.invariant c.loop-i-test.true, along_to c.loop-i.invariant c.loop-i-test.true)
 
 pub overflow_add-place : goal.overflow_add-place
 overflow_add-place c = omega (arith, along_below c.loop-i.invariant c.loop-i-test.true)
 
 pub is_sought-requires : goal.is_sought-requires
-is_sought-requires c = (c.requires.0, (inside c).0, (inside c).1, c.last_word-last.ensures.0, refl)
+is_sought-requires c = ((inside c).0, (inside c).1, c.last_word-last.ensures.0, refl)
 
 pub returns-then-is_sought : goal.returns-then-is_sought
 returns-then-is_sought c =
@@ -27,7 +27,7 @@ returns-then-is_sought c =
     (search_hit _ _ _ _ _ _ _ (sym c.is_sought.ensures ∙ c.if-is_sought.true))
 
 pub card_word-i-requires : goal.card_word-i-requires
-card_word-i-requires c = (c.requires.0, (inside (goal.at.card_word-i-requires c).In-loop-i).0, (inside (goal.at.card_word-i-requires c).In-loop-i).1, omega (arith, c.requires.0.room))
+card_word-i-requires c = ((inside (goal.at.card_word-i-requires c).In-loop-i).0, (inside (goal.at.card_word-i-requires c).In-loop-i).1, omega (arith, c.args.view.now.sized.room))
 
 pub loop-i-smaller : goal.loop-i-smaller
 loop-i-smaller c = omega (arith, along_less c.loop-i.invariant c.loop-i-test.true)

@@ -9,7 +9,7 @@ use Rattle.store.proofs.search.search.Given as goal
 
 abbrev pub invariant-loop-i : goal.invariant-loop-i
 invariant-loop-i t =
-    Along t.h.cards (next_card (shape_in t.h) t.w) t.first (searched (shape_in t.h) t.w t.first t.len t.key) t.i t.place (λ l. search_in (shape_in t.h) t.w t.len t.key l t.place t.prev)
+    Along t.view.header.cards (next_card (shape_in t.view.header) t.view.words.now) t.first (searched (shape_in t.view.header) t.view.words.now t.first t.len t.key) t.i t.place (λ l. search_in (shape_in t.view.header) t.view.words.now t.len t.key l t.place t.prev)
 
 abbrev pub decreases-loop-i : goal.decreases-loop-i
-decreases-loop-i l = length (follow l.h.cards (next_card (shape_in l.h) l.w) l.first) - l.place
+decreases-loop-i l = length (follow l.view.header.cards (next_card (shape_in l.view.header) l.view.words.now) l.first) - l.place
