@@ -1,5 +1,5 @@
 -- Laws of a header that the words are sized by (`sized_from`): a word of a cell is there (`card_in`, `cell_in_lem`) and, read in the words from
--- its part on, is the one asked for (`card_is`, `fault_is`). Of the words only their length counts (`sized_same`).
+-- its part on, is the one asked for (`cell_is`). Of the words only their length counts (`sized_same`).
 use mathlib.Core.Path.{◌≡◌, ap, ◌∙◌, sym}
 use mathlib.Core.Bool.{Bool, true, false, cond}
 use mathlib.Core.List.{List}
@@ -13,7 +13,7 @@ use Rattle.model.specs.Layout.{directory_at, fault_width, segments_at, cards_at,
 use Rattle.model.proofs.Places.{cell_at_below}
 use Rattle.model.proofs.Shapes.{top_most, entries_some, width_least, width_most, shaped, few_cards, few_faults}
 use Rattle.reads.specs.declared.header.Header.{Header}
-use Rattle.reads.specs.Cells.{shape_in, Room, Sized, width_of, limit_of}
+use Rattle.reads.specs.Cells.{shape_in, Room, Sized, cell_word, width_of, limit_of}
 use lib.Seq.{get_or-take, get_or-drop}
 
 -- what a header has in numbers, where the words are so long
@@ -70,11 +70,6 @@ module _ {w : List ℕ} {h : Header} (s : Sized w h) where
       let e : h.width * (i - 1) ≡ card_width (shape_in h) * (i - 1) = ap (λ (n : ℕ). n * (i - 1)) s.width in
       omega (arith, s.long, s.base, cell_at_below (cards_at (shape_in h)) (card_width (shape_in h)) h.cards i k a b (omega (arith, s.width)))
 
-  pub card_is : (i k : ℕ) → 1 ≤ i → i ≤ h.cards → k < h.width
-      → get_or (take (length w - h.base) (drop h.base w)) (h.width * (i - 1) + k) 0 ≡ card_word (shape_in h) w i k
-  unfolding card_word cell_at
-  card_is i k a b l = part_word w h.base (h.width * (i - 1)) k (card_in i k a b l) ∙ (λ t. get_or w (s.base t + s.width t * (i - 1) + k) 0)
-
   -- the same word, read in the words from that of the first cell on
   pub end_is : (i k : ℕ) → 1 ≤ i → i ≤ h.cards → k < h.width
       → get_or (take (length w - (h.base + k)) (drop (h.base + k) w)) (h.width * (i - 1)) 0 ≡ card_word (shape_in h) w i k
@@ -86,16 +81,17 @@ module _ {w : List ℕ} {h : Header} (s : Sized w h) where
   fault_in_lem : (i k : ℕ) → 1 ≤ i → i ≤ h.faults → k < fault_width → h.behind + fault_width * (i - 1) + k < length w
   fault_in_lem i k a b l = let r = s.room in omega arith
 
-  pub fault_is : (i k : ℕ) → 1 ≤ i → i ≤ h.faults → k < fault_width
-      → get_or (take (length w - h.behind) (drop h.behind w)) (fault_width * (i - 1) + k) 0 ≡ fault_word (shape_in h) w i k
-  unfolding fault_word cell_at
-  fault_is i k a b l = part_word w h.behind (fault_width * (i - 1)) k (fault_in_lem i k a b l) ∙ (λ t. get_or w (s.behind t + fault_width * (i - 1) + k) 0)
-
   pub cell_in_lem : (faults : Bool) (i k : ℕ) {start width : ℕ} → start ≡ cond faults h.behind h.base → width ≡ width_of (shape_in h) faults
-      → 1 ≤ i → i ≤ limit_of (shape_in h) faults → k < width → start + width * (i - 1) + k < length w
+      → 1 ≤ i → i ≤ limit_of (shape_in h) faults → k < width_of (shape_in h) faults → start + width * (i - 1) + k < length w
   unfolding limit_of width_of
-  cell_in_lem true i k p z a b l = rw (p, z) (fault_in_lem i k a b (omega (arith, z)))
-  cell_in_lem false i k p z a b l = let y = z ∙ sym s.width in rw (p, y) (card_in i k a b (omega (arith, y)))
+  cell_in_lem true i k p z a b l = rw (p, z) (fault_in_lem i k a b l)
+  cell_in_lem false i k p z a b l = let y = z ∙ sym s.width in rw (p, y) (card_in i k a b (omega (arith, s.width)))
+
+  pub cell_is : (faults : Bool) (i k : ℕ) {start width : ℕ} → start ≡ cond faults h.behind h.base → width ≡ width_of (shape_in h) faults
+      → start + width * (i - 1) + k < length w → get_or (take (length w - start) (drop start w)) (width * (i - 1) + k) 0 ≡ cell_word (shape_in h) w faults i k
+  unfolding cell_word width_of card_word fault_word cell_at
+  cell_is true i k {start} {width} p z l = part_word w start (width * (i - 1)) k l ∙ (λ t. get_or w ((p ∙ s.behind) t + z t * (i - 1) + k) 0)
+  cell_is false i k {start} {width} p z l = part_word w start (width * (i - 1)) k l ∙ (λ t. get_or w ((p ∙ s.base) t + z t * (i - 1) + k) 0)
 
   -- how many segments the most buckets take
   pub segment_count : h.top / segment_size ≡ entries (shape_in h)

@@ -1,10 +1,15 @@
 -- A test that is an `and` or an `or`, by its first part: what early returns in a row leave of it.
-use mathlib.Core.Path.{◌≡◌, sym, ap}
+use mathlib.Core.Path.{◌≡◌, refl, sym, ap, ◌∙◌}
+use mathlib.Core.List.{List, [], ◌∷◌}
 use mathlib.Core.Bool.{Bool, true, false, ◌&&◌, ◌||◌}
-use Prim.Native.Nat.{ℕ, suc, ◌+◌, ◌-◌, ◌≤◌, ◌<◌}
+use Prim.Native.Nat.{ℕ, suc, ◌+◌, ◌-◌, ◌*◌, ◌/◌, ◌≤◌, ◌<◌}
 use native.Mathlib.Omega.{arith}
 use native.Mathlib.Numerals.{add-one}
-use Rattle.model.specs.Lists.{all, from}
+use Rattle.std.specs.List.{list_all}
+use Rattle.rules.proofs.Tests.{by_cases}
+use lib.Dec.{leb}
+use borrow.Author.Tests.{leb-true, leb-false, le-leb, lt-leb}
+use Rattle.model.specs.Lists.{all, between, from}
 
 -- the first part holds: the rest decides; it fails: the whole fails
 pub and_rest : {a : Bool} (r : Bool) → a ≡ true → (a && r) ≡ r
@@ -37,3 +42,15 @@ module _ (f : ℕ → Bool) (k e : ℕ) where
   pub test_ends : e ≤ k → test_from f k e ≡ true
   unfolding test_from
   test_ends h = let z : e - k ≡ 0 = omega arith in rw z
+
+-- a list all of whose elements pass, in std's word and in the model's
+pub list_all_is : {A : Type 0} (f g : A → Bool) → ((x : A) → f x ≡ g x) → (xs : List A) → list_all f xs ≡ all g xs
+list_all_is f g e [] = refl
+list_all_is f g e (x ∷ xs) = λ i. e x i && list_all_is f g e xs i
+
+-- l is at most the half of u exactly where twice l is at most u
+pub half_tells : (u l : ℕ) → between 1 (u / 2) l ≡ (leb 1 l && leb (2 * l) u)
+unfolding between
+half_tells u l = ap (λ (t : Bool). leb 1 l && t) (by_cases (leb (2 * l) u)
+    (λ e. le-leb l (u / 2) (omega (arith, leb-true (2 * l) u e)) ∙ sym e)
+    (λ e. lt-leb l (u / 2) (omega (arith, leb-false (2 * l) u e)) ∙ sym e))

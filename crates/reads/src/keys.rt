@@ -35,11 +35,12 @@ pub fn key_at(w: &[u32], h: Header, i: u32) -> [u32; layout::SERIAL_WORDS]
     requires { Sized w.now h × (1 ≤ i) × (i ≤ h.cards) }
     ensures { result ≡ key_at (shape_in h) w.now i }
 {
-    let a = cells::card_word(w, h, i, layout::TO_SERIAL);
-    let b = cells::card_word(w, h, i, layout::TO_SERIAL + 1);
-    let c = cells::card_word(w, h, i, layout::TO_SERIAL + 2);
-    let d = cells::card_word(w, h, i, layout::TO_SERIAL + 3);
-    [a, b, c, d]
+    [
+        cells::card_word(w, h, i, layout::TO_SERIAL),
+        cells::card_word(w, h, i, layout::TO_SERIAL + 1),
+        cells::card_word(w, h, i, layout::TO_SERIAL + 2),
+        cells::card_word(w, h, i, layout::TO_SERIAL + 3),
+    ]
 }
 
 // The sixteen bytes of the card in cell i.
@@ -47,8 +48,8 @@ pub fn bytes_at(w: &[u32], h: Header, i: u32) -> [u8; 16]
     requires { Sized w.now h × (1 ≤ i) × (i ≤ h.cards) }
     ensures { result ≡ bytes_at (shape_in h) w.now i }
 {
-    let key = key_at(w, h, i);
-    serial::unpack(key[0], key[1], key[2], key[3])
+    let [a, b, c, d] = key_at(w, h, i);
+    serial::unpack(a, b, c, d)
 }
 
 // Whether card i has a serial of this length and these four words: all bytes are compared and the length, never codes.
@@ -56,14 +57,9 @@ pub fn has_key(w: &[u32], h: Header, i: u32, len: u32, key: [u32; layout::SERIAL
     requires { Sized w.now h × (1 ≤ i) × (i ≤ h.cards) }
     ensures { result ≡ has_key (shape_in h) w.now i len key }
 {
-    let mut k: usize = layout::SERIAL_WORDS;
-    while k > 0 {
-        k -= 1;
-        if cells::card_word(w, h, i, k + layout::TO_SERIAL) != key[k] {
-            return false;
-        }
-    }
-    cells::card_word(w, h, i, layout::TO_LENGTH) == len
+    (0..layout::SERIAL_WORDS).rev().all(|k| cells::card_word(w, h, i, k + layout::TO_SERIAL)
+        == key[k])
+        && cells::card_word(w, h, i, layout::TO_LENGTH) == len
 }
 
 // Whether two cards have the same serial: its length and its four words. The word that holds the last byte tells most of them apart.
@@ -73,8 +69,5 @@ pub fn same_key(w: &[u32], h: Header, i: u32, j: u32) -> bool
 {
     let len = cells::card_word(w, h, j, layout::TO_LENGTH);
     let last = last_word(len);
-    if end_word(w, h, i, last) != end_word(w, h, j, last) {
-        return false;
-    }
-    has_key(w, h, i, len, key_at(w, h, j))
+    end_word(w, h, i, last) == end_word(w, h, j, last) && has_key(w, h, i, len, key_at(w, h, j))
 }
