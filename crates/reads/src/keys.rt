@@ -6,16 +6,17 @@ ghost use Rattle.reads.specs.Cells.{shape_in, word_bytes, key_at, bytes_at, same
 ghost use Rattle.reads.specs.Chains.{has_key};
 
 use crate::cells::View;
+use crate::layout::SERIAL_WORDS;
 use crate::{layout, serial};
 
 // The bytes of a serial that a word holds.
-const WORD_BYTES: usize = rules::SERIAL / layout::SERIAL_WORDS;
+const WORD_BYTES: usize = rules::SERIAL / SERIAL_WORDS;
 
 // The word of a serial of this length that holds its last byte. Of any other length it is one of the four, too.
 pub fn last_word(len: u32) -> usize
     ensures { (result < serial_words) × (1 ≤ len → len ≤ most_bytes → (word_bytes * result < len) × (len ≤ word_bytes * (result + 1))) }
 {
-    (len as usize + rules::SERIAL - 1) / WORD_BYTES % layout::SERIAL_WORDS
+    (len as usize + rules::SERIAL - 1) / WORD_BYTES % SERIAL_WORDS
 }
 
 impl<'a> View<'a> {
@@ -32,7 +33,7 @@ impl<'a> View<'a> {
     }
 
     // The four words of the serial in cell i.
-    pub fn key_at(&self, i: u32) -> [u32; layout::SERIAL_WORDS]
+    pub fn key_at(&self, i: u32) -> [u32; SERIAL_WORDS]
         requires { (1 ≤ i) × (i ≤ self.now.header.cards) }
         ensures { result ≡ key_at (shape_in self.now.header) self.now.words.now i }
     {
@@ -54,11 +55,11 @@ impl<'a> View<'a> {
     }
 
     // Whether card i has a serial of this length and these four words: all bytes are compared and the length, never codes.
-    pub fn has_key(&self, i: u32, len: u32, key: [u32; layout::SERIAL_WORDS]) -> bool
+    pub fn has_key(&self, i: u32, len: u32, key: [u32; SERIAL_WORDS]) -> bool
         requires { (1 ≤ i) × (i ≤ self.now.header.cards) }
         ensures { result ≡ has_key (shape_in self.now.header) self.now.words.now i len key }
     {
-        (0..layout::SERIAL_WORDS)
+        (0..SERIAL_WORDS)
             .rev()
             .all(|k| self.card_word(i, k + layout::TO_SERIAL) == key[k])
             && self.card_word(i, layout::TO_LENGTH) == len
