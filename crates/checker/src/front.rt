@@ -2,11 +2,11 @@
 ghost use Rattle.std.specs.Prelude.{◌≡◌, true, ◌+◌, ◌≤◌, ◌<◌, length};
 ghost use Rattle.model.specs.Bounds.{farthest};
 ghost use Rattle.model.specs.Layout.{directory_at, shape_ok, shape_of};
-ghost use Rattle.reads.specs.Cells.{shape_by, shape_in, Sized};
+ghost use Rattle.reads.specs.Cells.{shape_by, shape_in};
 ghost use Rattle.reads.specs.Front.{limits_fit, ends_fit, offsets_fit};
 ghost use Rattle.checker.specs.Checker.{entry_for, directory_fits, rest_fits, table_fits, front_fits};
 
-use reads::header::Header;
+use reads::cells::View;
 use reads::layout::Shape;
 use reads::{header, layout};
 
@@ -61,33 +61,41 @@ fn entry_for(segments: u32, b: u32, k: u32) -> u32
 }
 
 // The directory: each segment is in use where its first bucket is one of the b.
-fn directory_fits(w: &[u32], h: Header, b: u32) -> bool
-    requires { Sized w.now h }
-    ensures { result ≡ directory_fits (shape_in h) w.now b }
+fn directory_fits(view: &View, b: u32) -> bool
+    ensures { result ≡ directory_fits (shape_in view.now.header) view.now.words.now b }
 {
-    let segments = h.segments as u32;
-    (0..h.top / layout::SEGMENT_SIZE).all(|k| header::word(w, layout::DIRECTORY_AT + k as usize)
-        == entry_for(segments, b, k))
+    let segments = view.header.segments as u32;
+    (0..view.header.top / layout::SEGMENT_SIZE).all(|k| header::word(
+        view.words,
+        layout::DIRECTORY_AT + k as usize,
+    ) == entry_for(segments, b, k))
 }
 
 // The words of buckets from b on are zero.
-fn rest_fits(w: &[u32], h: Header, b: u32) -> bool
-    requires { Sized w.now h × (b ≤ h.top) }
-    ensures { result ≡ rest_fits (shape_in h) w.now b }
+fn rest_fits(view: &View, b: u32) -> bool
+    requires { b ≤ view.now.header.top }
+    ensures { result ≡ rest_fits (shape_in view.now.header) view.now.words.now b }
 {
-    w[h.segments + b as usize..h.segments + h.top as usize]
+    let h = view.header;
+    view.words[h.segments + b as usize..h.segments + h.top as usize]
         .iter()
         .all(|&word| word == 0)
 }
 
 // The table's words: the load, the directory, and the bucket words past the last bucket.
-fn table_fits(w: &[u32], h: Header, b: u32) -> bool
-    requires { Sized w.now h × (b ≤ h.top) }
-    ensures { result ≡ table_fits (shape_in h) w.now b }
+fn table_fits(view: &View, b: u32) -> bool
+    requires { b ≤ view.now.header.top }
+    ensures { result ≡ table_fits (shape_in view.now.header) view.now.words.now b }
 {
-    rules::load_fits(h.top, h.upper, h.lower, header::word(w, layout::HELD_AT), b)
-        && directory_fits(w, h, b)
-        && rest_fits(w, h, b)
+    let h = view.header;
+    rules::load_fits(
+        h.top,
+        h.upper,
+        h.lower,
+        header::word(view.words, layout::HELD_AT),
+        b,
+    ) && directory_fits(view, b)
+        && rest_fits(view, b)
 }
 
 // All words before the cells but the chains' first cells.
@@ -99,5 +107,9 @@ pub fn front_fits(w: &[u32]) -> bool
         return false;
     }
     let h = header::read(w);
-    rules::state_ok(h.top, h.maxp, h.p) && table_fits(w, h, h.maxp + h.p)
+    let view = View {
+        words: w,
+        header: h,
+    };
+    rules::state_ok(h.top, h.maxp, h.p) && table_fits(&view, h.maxp + h.p)
 }

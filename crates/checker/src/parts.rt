@@ -8,26 +8,25 @@ ghost use Rattle.checker.specs.Checker.{part_of, DidPart, DidCheck};
 use crate::chained::Chained;
 use crate::fits::Chain;
 use crate::{front, walks};
-use reads::cells::{Cards, Faults};
+use reads::cells::{Cards, Faults, View};
 use reads::header;
-use reads::header::Header;
 
 // All cells of a part stand in a chain, once, and as many as the header says are held.
-pub fn part_fits<P: Chained>(w: &[u32], scratch: &mut [u8], h: Header) -> bool
-    requires { Read w.now h × (h.maxp + h.p ≤ h.top) × (need (shape_in h) ≤ length scratch.old) }
-    ensures { DidPart (part_of (shape_in h) w.now P.faults scratch.old) result scratch.new }
+pub fn part_fits<P: Chained>(view: &View, scratch: &mut [u8]) -> bool
+    requires { Read view.now.words.now view.now.header × (view.now.header.maxp + view.now.header.p ≤ view.now.header.top) × (need (shape_in view.now.header) ≤ length scratch.old) }
+    ensures { DidPart (part_of (shape_in view.now.header) view.now.words.now P.faults scratch.old) result scratch.new }
 {
-    let limit = P::limit(h);
-    let base = P::base(h);
-    let first = P::free_word(w);
-    let Some(free) = walks::walk::<P>(w, scratch, h, Chain::Free, base, limit, first) else {
+    let limit = P::limit(view.header);
+    let base = P::base(view.header);
+    let first = P::free_word(view);
+    let Some(free) = walks::walk::<P>(view, scratch, Chain::Free, base, limit, first) else {
         return false;
     };
-    let n = P::chain_count(h);
-    let Some(held) = walks::walk_all::<P>(w, scratch, h, base, limit, n) else {
+    let n = P::chain_count(view.header);
+    let Some(held) = walks::walk_all::<P>(view, scratch, base, limit, n) else {
         return false;
     };
-    held == P::held_word(w) && u64::from(free.count) + u64::from(held) == u64::from(limit)
+    held == P::held_word(view) && u64::from(free.count) + u64::from(held) == u64::from(limit)
 }
 
 // The front, then the cards, then the faults; bytes of scratch behind the marks stay.
@@ -38,6 +37,9 @@ pub fn all_fit(w: &[u32], scratch: &mut [u8]) -> bool
     if !front::front_fits(w) {
         return false;
     }
-    let h = header::read(w);
-    part_fits::<Cards>(w, scratch, h) && part_fits::<Faults>(w, scratch, h)
+    let view = View {
+        words: w,
+        header: header::read(w),
+    };
+    part_fits::<Cards>(&view, scratch) && part_fits::<Faults>(&view, scratch)
 }

@@ -2,12 +2,12 @@
 ghost use Rattle.std.specs.Prelude.{◌≡◌, ◌+◌, ◌*◌, ◌≤◌, ◌<◌};
 ghost use Rattle.model.specs.Serial.{most_bytes};
 ghost use Rattle.model.specs.Layout.{to_serial, serial_words, card_word};
-ghost use Rattle.reads.specs.Cells.{shape_in, word_bytes, key_at, bytes_at, same_key};
+ghost use Rattle.reads.specs.Cells.{shape_in, Sized, word_bytes, key_at, bytes_at, same_key};
 ghost use Rattle.reads.specs.Chains.{has_key};
 
 use crate::cells::View;
-use crate::layout::SERIAL_WORDS;
-use crate::{layout, serial};
+use crate::layout::{SERIAL_WORDS, TO_LENGTH, TO_SERIAL};
+use crate::serial;
 
 // The bytes of a serial that a word holds.
 const WORD_BYTES: usize = rules::SERIAL / SERIAL_WORDS;
@@ -26,7 +26,7 @@ impl<'a> View<'a> {
         requires { (1 ≤ i) × (i ≤ self.now.header.cards) × (last < serial_words) }
         ensures { result ≡ card_word (shape_in self.now.header) self.now.words.now i (last + to_serial) }
     {
-        let first = self.header.base + (last + layout::TO_SERIAL);
+        let first = self.header.base + (last + TO_SERIAL);
         let cell = (i - 1) as usize;
         let ends = &self.words[first..];
         ends[self.header.width * cell]
@@ -38,10 +38,10 @@ impl<'a> View<'a> {
         ensures { result ≡ key_at (shape_in self.now.header) self.now.words.now i }
     {
         [
-            self.card_word(i, layout::TO_SERIAL),
-            self.card_word(i, layout::TO_SERIAL + 1),
-            self.card_word(i, layout::TO_SERIAL + 2),
-            self.card_word(i, layout::TO_SERIAL + 3),
+            self.card_word(i, TO_SERIAL),
+            self.card_word(i, TO_SERIAL + 1),
+            self.card_word(i, TO_SERIAL + 2),
+            self.card_word(i, TO_SERIAL + 3),
         ]
     }
 
@@ -61,8 +61,8 @@ impl<'a> View<'a> {
     {
         (0..SERIAL_WORDS)
             .rev()
-            .all(|k| self.card_word(i, k + layout::TO_SERIAL) == key[k])
-            && self.card_word(i, layout::TO_LENGTH) == len
+            .all(|k| self.card_word(i, k + TO_SERIAL) == key[k])
+            && self.card_word(i, TO_LENGTH) == len
     }
 
     // Whether two cards have the same serial: its length and its four words. The word that holds the last byte tells most of them apart.
@@ -70,8 +70,15 @@ impl<'a> View<'a> {
         requires { (1 ≤ i) × (i ≤ self.now.header.cards) × (1 ≤ j) × (j ≤ self.now.header.cards) }
         ensures { result ≡ same_key (shape_in self.now.header) self.now.words.now i j }
     {
-        let len = self.card_word(j, layout::TO_LENGTH);
+        let len = self.card_word(j, TO_LENGTH);
         let last = last_word(len);
         self.end_word(i, last) == self.end_word(j, last) && self.has_key(i, len, self.key_at(j))
     }
+}
+
+pub fn bytes_at(w: &[u32], h: crate::header::Header, i: u32) -> [u8; 16]
+    requires { Sized w.now h × (1 ≤ i) × (i ≤ h.cards) }
+    ensures { result ≡ bytes_at (shape_in h) w.now i }
+{
+    View { words: w, header: h }.bytes_at(i)
 }

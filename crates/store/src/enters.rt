@@ -8,6 +8,7 @@ ghost use Rattle.store.specs.Plans.{Planned};
 use crate::answer::Answer;
 use crate::plans;
 use crate::plans::Plan;
+use crate::stores::Sound;
 use reads::layout;
 use writer::{table, writes};
 
@@ -29,7 +30,7 @@ pub fn enter_in(w: &mut [u32], serial: [u8; 16], len: usize) -> Answer
     requires { sound w.old ≡ true }
     ensures { Does (enter_step (decode w.old) serial len) result w.new [] }
 {
-    match plans::plan_enter(w, serial, len) {
+    match plans::plan_enter(&Sound::of(w), serial, len) {
         Err(answer) => answer,
         Ok(plan) => {
             make_enter(w, serial, len, plan);

@@ -8,6 +8,7 @@ ghost use Rattle.store.specs.Plans.{file_with, Ready, Follows};
 use crate::answer::Answer;
 use crate::plans;
 use crate::plans::Plan;
+use crate::stores::Sound;
 use writer::writes;
 
 // Does what a plan of File says: the fault goes behind the last one of the card in the plan's cell.
@@ -25,7 +26,7 @@ pub fn file_in(w: &mut [u32], serial: [u8; 16], len: usize, day: u32, code: u32)
     requires { sound w.old ≡ true }
     ensures { Does (file_step (decode w.old) serial len day code) result w.new [] }
 {
-    match plans::plan_file(w, serial, len, day, code) {
+    match plans::plan_file(&Sound::of(w), serial, len, day, code) {
         Err(answer) => answer,
         Ok(plan) => {
             make_file(w, plan, day, code);

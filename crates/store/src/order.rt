@@ -15,11 +15,10 @@ pub struct At {
 
 // The first card of the buckets from b on.
 fn from_bucket(store: &Sound, b: u32) -> Option<At>
-    ensures { result ≡ head_from (decode store.now.words.now) b }
+    ensures { result ≡ head_from (decode store.now.view.words.now) b }
 {
-    let view = store.view();
-    for bucket in b..store.header.maxp + store.header.p {
-        let cell = view.bucket_word(bucket);
+    for bucket in b..store.view.header.maxp + store.view.header.p {
+        let cell = store.view.bucket_word(bucket);
         if cell != 0 {
             return Some(At { bucket, cell });
         }
@@ -29,17 +28,17 @@ fn from_bucket(store: &Sound, b: u32) -> Option<At>
 
 // The first card of a store.
 pub fn first_card(store: &Sound) -> Option<At>
-    ensures { result ≡ place_of (decode store.now.words.now) 0 }
+    ensures { result ≡ place_of (decode store.now.view.words.now) 0 }
 {
     from_bucket(store, 0)
 }
 
 // The card behind one of its cards.
 pub fn next_card(store: &Sound, at: At) -> Option<At>
-    requires { Comes (decode store.now.words.now) at }
-    ensures { Follows (decode store.now.words.now) at result }
+    requires { Comes (decode store.now.view.words.now) at }
+    ensures { Follows (decode store.now.view.words.now) at result }
 {
-    let cell = store.view().card_word(at.cell, layout::TO_NEXT);
+    let cell = store.view.card_word(at.cell, layout::TO_NEXT);
     if cell != 0 {
         return Some(At { cell, ..at });
     }

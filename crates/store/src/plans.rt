@@ -61,7 +61,7 @@ pub fn buckets(w: &[u32]) -> u32
     ensures { result ≡ size (decode w.now) }
 {
     let store = Sound::of(w);
-    store.header.maxp + store.header.p
+    store.view.header.maxp + store.view.header.p
 }
 
 // How many cards the chain from cell `first` on has.
@@ -81,20 +81,19 @@ fn chain_len(view: &View, first: u32) -> u32
 
 // How many cards bucket b has.
 fn bucket_len(store: &Sound, b: u32) -> u32
-    requires { b < store.now.header.maxp + store.now.header.p }
-    ensures { result ≡ length (bucket (decode store.now.words.now) b) }
+    requires { b < store.now.view.header.maxp + store.now.view.header.p }
+    ensures { result ≡ length (bucket (decode store.now.view.words.now) b) }
 {
-    let view = store.view();
-    let first = view.bucket_word(b);
-    chain_len(&view, first)
+    let first = store.view.bucket_word(b);
+    chain_len(&store.view, first)
 }
 
 // What an entry into bucket b will scan: bucket p with the new card, if the store then splits it.
 fn grow_scan(store: &Sound, b: u32) -> u32
-    ensures { result ≡ grow_scan (decode store.now.words.now) b }
+    ensures { result ≡ grow_scan (decode store.now.view.words.now) b }
 {
-    let h = store.header;
-    let n = header::word(store.words, layout::HELD_AT);
+    let h = store.view.header;
+    let n = header::word(store.view.words, layout::HELD_AT);
     if !rules::must_split(h.top, h.upper, n + 1, h.maxp + h.p) {
         return 0;
     }
@@ -104,10 +103,10 @@ fn grow_scan(store: &Sound, b: u32) -> u32
 
 // What a withdrawal from bucket b will scan: the last bucket without the card, if the store then joins it to another.
 fn shrink_scan(store: &Sound, b: u32) -> u32
-    ensures { result ≡ shrink_scan (decode store.now.words.now) b }
+    ensures { result ≡ shrink_scan (decode store.now.view.words.now) b }
 {
-    let h = store.header;
-    let n = header::word(store.words, layout::HELD_AT);
+    let h = store.view.header;
+    let n = header::word(store.view.words, layout::HELD_AT);
     let size = h.maxp + h.p;
     if !rules::must_contract(h.lower, n.saturating_sub(1), size) {
         return 0;
@@ -122,17 +121,17 @@ fn shrink_scan(store: &Sound, b: u32) -> u32
 
 // Enter: 4 for the serial, 6 where a card has it, 8 where no cell is free.
 pub fn plan_enter(store: &Sound, serial: [u8; 16], len: usize) -> Result<Plan, Answer>
-    ensures { Plans (enter_step (decode store.now.words.now) serial len).answer store.now.words.now serial len result }
+    ensures { Plans (enter_step (decode store.now.view.words.now) serial len).answer store.now.view.words.now serial len result }
 {
     if !serial::valid_serial(serial, len) {
         return Err(Refusal::BadSerial.into());
     }
-    let h = store.header;
+    let h = store.view.header;
     let spot = search::find(store, serial, len);
     if spot.found.cell.is_some() {
         return Err(refuse(Refusal::AlreadyHeld, spot.found.place, 0));
     }
-    if header::word(store.words, layout::HELD_AT) == h.cards {
+    if header::word(store.view.words, layout::HELD_AT) == h.cards {
         return Err(refuse(Refusal::CardsFull, spot.found.place, 0));
     }
     let scanned = grow_scan(store, spot.bucket);
@@ -147,7 +146,7 @@ pub fn plan_file(
     day: u32,
     code: u32,
 ) -> Result<Plan, Answer>
-    ensures { Plans (file_step (decode store.now.words.now) serial len day code).answer store.now.words.now serial len result }
+    ensures { Plans (file_step (decode store.now.view.words.now) serial len day code).answer store.now.view.words.now serial len result }
 {
     if !serial::valid_serial(serial, len) {
         return Err(Refusal::BadSerial.into());
@@ -155,29 +154,29 @@ pub fn plan_file(
     if !serial::valid_fault(day, code) {
         return Err(Refusal::BadFault.into());
     }
-    let h = store.header;
+    let h = store.view.header;
     let spot = search::find(store, serial, len);
     let Some(cell) = spot.found.cell else {
         return Err(refuse(Refusal::NotHeld, spot.found.place, 0));
     };
-    if header::word(store.words, layout::FAULTS_HELD_AT) == h.faults {
+    if header::word(store.view.words, layout::FAULTS_HELD_AT) == h.faults {
         return Err(refuse(Refusal::FaultsFull, spot.found.place, 0));
     }
-    let n = store.view().card_word(cell, layout::TO_COUNT);
+    let n = store.view.card_word(cell, layout::TO_COUNT);
     Ok(accept(h, spot, 0, n + 1))
 }
 
 // Show and Withdraw of a valid serial: 7 where no card has it, 10 where its pairs do not fit.
 fn plan_pairs(store: &Sound, serial: [u8; 16], len: usize, room: usize) -> Result<Plan, Answer>
     requires { valid_serial serial len ≡ true }
-    ensures { PlansFor (show_step (decode store.now.words.now) serial len) room store.now.words.now serial len result }
+    ensures { PlansFor (show_step (decode store.now.view.words.now) serial len) room store.now.view.words.now serial len result }
 {
-    let h = store.header;
+    let h = store.view.header;
     let spot = search::find(store, serial, len);
     let Some(cell) = spot.found.cell else {
         return Err(refuse(Refusal::NotHeld, spot.found.place, 0));
     };
-    let n = store.view().card_word(cell, layout::TO_COUNT);
+    let n = store.view.card_word(cell, layout::TO_COUNT);
     if room < 2 * (n as usize) {
         return Err(refuse(Refusal::ShortRoom, spot.found.place, n));
     }
@@ -186,7 +185,7 @@ fn plan_pairs(store: &Sound, serial: [u8; 16], len: usize, room: usize) -> Resul
 
 // Show, for a room of so many words: 4 for the serial, then 7 and 10.
 pub fn plan_show(store: &Sound, serial: [u8; 16], len: usize, room: usize) -> Result<Plan, Answer>
-    ensures { PlansFor (show_step (decode store.now.words.now) serial len) room store.now.words.now serial len result }
+    ensures { PlansFor (show_step (decode store.now.view.words.now) serial len) room store.now.view.words.now serial len result }
 {
     if !serial::valid_serial(serial, len) {
         return Err(Refusal::BadSerial.into());
@@ -196,7 +195,7 @@ pub fn plan_show(store: &Sound, serial: [u8; 16], len: usize, room: usize) -> Re
 
 // Withdraw: as Show, and what it will scan.
 pub fn plan_withdraw(store: &Sound, serial: [u8; 16], len: usize, room: usize) -> Result<Plan, Answer>
-    ensures { PlansFor (withdraw_step (decode store.now.words.now) serial len) room store.now.words.now serial len result }
+    ensures { PlansFor (withdraw_step (decode store.now.view.words.now) serial len) room store.now.view.words.now serial len result }
 {
     if !serial::valid_serial(serial, len) {
         return Err(Refusal::BadSerial.into());

@@ -75,15 +75,14 @@ pub fn search(view: &View, first: u32, len: u32, key: [u32; layout::SERIAL_WORDS
 // Where the card of a serial stands in a sound store: its bucket by the serial's code, and the search of that bucket's chain.
 pub fn find(store: &Sound, serial: [u8; 16], len: usize) -> Spot
     requires { valid_serial serial len ≡ true }
-    ensures { Finds (decode store.now.words.now) (take len serial) result }
+    ensures { Finds (decode store.now.view.words.now) (take len serial) result }
 {
     let key = serial::pack(serial);
-    let view = store.view();
     let code = rules::serial_code(serial, len);
-    let bucket = rules::reader_address(code, store.header.maxp, store.header.p);
-    let first = view.bucket_word(bucket);
+    let bucket = rules::reader_address(code, store.view.header.maxp, store.view.header.p);
+    let first = store.view.bucket_word(bucket);
     Spot {
         bucket,
-        found: search(&view, first, len as u32, key),
+        found: search(&store.view, first, len as u32, key),
     }
 }

@@ -8,6 +8,7 @@ ghost use Rattle.store.specs.Plans.{Ready, Follows};
 
 use crate::answer::Answer;
 use crate::plans::Plan;
+use crate::stores::Sound;
 use crate::{plans, shows};
 use writer::{table, writes};
 
@@ -28,7 +29,7 @@ pub fn withdraw_in(w: &mut [u32], serial: [u8; 16], len: usize, room: &mut [u32]
     requires { sound w.old ≡ true }
     ensures { Does (withdraw_step (decode w.old) serial len room.old) result w.new room.new }
 {
-    match plans::plan_withdraw(w, serial, len, room.len()) {
+    match plans::plan_withdraw(&Sound::of(w), serial, len, room.len()) {
         Err(answer) => answer,
         Ok(plan) => {
             shows::put_history(w, plan, room);

@@ -8,15 +8,15 @@ pub card_fits-requires : goal.card_fits-requires
 unfolding limit_of
 card_fits-requires g c =
     let p = c.requires in
-    let s = subst (Suits c.args.h g.P.Part.faults) c.in-Bucket.is p.1 in
+    let s = subst (Suits c.args.view.now.header g.P.Part.faults) c.in-Bucket.is p.1 in
     (p.0, s.1, p.2, rw s.0 at p.3)
 
 pub fault_fits-requires : goal.fault_fits-requires
 unfolding limit_of
 fault_fits-requires g c =
     let p = c.requires in
-    let s = subst (Suits c.args.h g.P.Part.faults) c.in-History.is p.1 in
-    (p.0.sized, p.2, rw s at p.3)
+    let s = subst (Suits c.args.view.now.header g.P.Part.faults) c.in-History.is p.1 in
+    (p.2, rw s at p.3)
 
 pub returns-in-Free : goal.returns-in-Free
 unfolding cell_fits

@@ -11,41 +11,44 @@ use Rattle.checker.proofs.TestLaws.{is_zero, words_in, free_all}
 use Rattle.checker.proofs.fits.free_fits.Goals as goal
 
 pub overflow_mul-at : goal.overflow_mul-at
-overflow_mul-at g c = let p = c.requires in omega (arith, cell_whole p.0 _ _ c.start.ensures c.width-width.ensures p.1 p.2, p.0.room)
+overflow_mul-at g c = let p = c.requires in let s = c.args.view.now.sized in omega (arith, cell_whole s _ _ c.start.ensures c.width-width.ensures p.0 p.1, s.room)
 
 pub overflow_add-at : goal.overflow_add-at
-overflow_add-at g c = let p = c.requires in omega (arith, cell_whole p.0 _ _ c.start.ensures c.width-width.ensures p.1 p.2, p.0.room)
+overflow_add-at g c = let p = c.requires in let s = c.args.view.now.sized in omega (arith, cell_whole s _ _ c.start.ensures c.width-width.ensures p.0 p.1, s.room)
 
 pub overflow_add-at-2 : goal.overflow_add-at-2
-overflow_add-at-2 g c = let p = c.requires in omega (arith, cell_whole p.0 _ _ c.start.ensures c.width-width.ensures p.1 p.2, p.0.room)
+overflow_add-at-2 g c = let p = c.requires in let s = c.args.view.now.sized in omega (arith, cell_whole s _ _ c.start.ensures c.width-width.ensures p.0 p.1, s.room)
 
 pub overflow_add-at-3 : goal.overflow_add-at-3
-overflow_add-at-3 g c = let p = c.requires in omega (arith, cell_whole p.0 _ _ c.start.ensures c.width-width.ensures p.1 p.2, p.0.room)
+overflow_add-at-3 g c = let p = c.requires in let s = c.args.view.now.sized in omega (arith, cell_whole s _ _ c.start.ensures c.width-width.ensures p.0 p.1, s.room)
 
-pub offset_bounds-w-at : goal.offset_bounds-w-at
-offset_bounds-w-at g c = let p = c.requires in omega (arith, cell_whole p.0 _ _ c.start.ensures c.width-width.ensures p.1 p.2, p.0.room)
+pub offset_bounds-view-at : goal.offset_bounds-view-at
+offset_bounds-view-at g c = let p = c.requires in let s = c.args.view.now.sized in omega (arith, cell_whole s _ _ c.start.ensures c.width-width.ensures p.0 p.1, s.room)
 
 pub slice_bounds-iter-count : goal.slice_bounds-iter-count
-slice_bounds-iter-count g c = omega (arith, c.width-width.ensures, width_some (shape_in c.args.h) g.P.Part.faults)
+slice_bounds-iter-count g c = omega (arith, c.width-width.ensures, width_some (shape_in c.args.view.now.header) g.P.Part.faults)
 
 pub slice_bounds-iter-start : goal.slice_bounds-iter-start
 slice_bounds-iter-start g c =
     let p = c.requires in
-    let l = cell_whole p.0 _ _ c.start.ensures c.width-width.ensures p.1 p.2 in
-    let k : 0 < c.width-width.result = omega (arith, c.width-width.ensures, width_some (shape_in c.args.h) g.P.Part.faults) in
+    let s = c.args.view.now.sized in
+    let l = cell_whole s _ _ c.start.ensures c.width-width.ensures p.0 p.1 in
+    let k : 0 < c.width-width.result = omega (arith, c.width-width.ensures, width_some (shape_in c.args.view.now.header) g.P.Part.faults) in
     search rules
 
 pub slice_bounds-iter-end : goal.slice_bounds-iter-end
 slice_bounds-iter-end g c =
     let p = c.requires in
-    let l = cell_whole p.0 _ _ c.start.ensures c.width-width.ensures p.1 p.2 in
-    let k : 0 < c.width-width.result = omega (arith, c.width-width.ensures, width_some (shape_in c.args.h) g.P.Part.faults) in
+    let s = c.args.view.now.sized in
+    let l = cell_whole s _ _ c.start.ensures c.width-width.ensures p.0 p.1 in
+    let k : 0 < c.width-width.result = omega (arith, c.width-width.ensures, width_some (shape_in c.args.view.now.header) g.P.Part.faults) in
     search rules
 
 pub returns : goal.returns
 returns g c =
     let p = c.requires in
+    let s = c.args.view.now.sized in
     let start = c.start.ensures in
     let width = c.width-width.ensures in
-    all_from_yields_List is_zero _ _ c.all.result c.all.ensures.ran (YieldsList-from_slice (words_in c.args.w.now (c.start.result + c.width-width.result * (c.args.i - 1) + 1) (c.start.result + c.width-width.result * (c.args.i - 1) + c.width-width.result)) cc) (λ x b q k. search (rules, tests))
-    ∙ free_all p.0 _ _ start width (omega (arith, width, width_some (shape_in c.args.h) g.P.Part.faults)) (cell_whole p.0 _ _ start width p.1 p.2)
+    all_from_yields_List is_zero _ _ c.all.result c.all.ensures.ran (YieldsList-from_slice (words_in c.args.view.now.words.now (c.start.result + c.width-width.result * (c.args.i - 1) + 1) (c.start.result + c.width-width.result * (c.args.i - 1) + c.width-width.result)) cc) (λ x b q k. search (rules, tests))
+    ∙ free_all s _ _ start width (omega (arith, width, width_some (shape_in c.args.view.now.header) g.P.Part.faults)) (cell_whole s _ _ start width p.0 p.1)

@@ -5,4 +5,4 @@ use Rattle.checker.specs.Fits.{met_first}
 use Rattle.checker.proofs.fits.met_first.Given as goal
 
 abbrev pub invariant-loop : goal.invariant-loop
-invariant-loop l = met_first (l.h.cards - l.counter) (shape_in l.h) l.w l.j l.i ≡ met_first l.h.cards (shape_in l.h) l.w l.first l.i
+invariant-loop l = met_first (l.view.header.cards - l.counter) (shape_in l.view.header) l.view.words.now l.j l.i ≡ met_first l.view.header.cards (shape_in l.view.header) l.view.words.now l.first l.i

@@ -12,6 +12,6 @@ use Rattle.checker.proofs.front.directory_fits.Goals as goal
 
 pub returns : goal.returns
 returns c =
-    let z = c.requires in
-    all_from_yields_List (entry_at c.args.h.segments c.args.w.now c.args.b) _ _ c.all.result c.all.ensures.ran (YieldsList-from_range 0 (c.args.h.top / segment_size) (c.args.h.top / segment_size) refl (omega arith)) (λ x b q k. search (rules, tests))
-    ∙ directory_all _ c.args.w.now c.args.b z.segments (segment_count z)
+    let z = c.args.view.now.sized in
+    all_from_yields_List (entry_at c.args.view.now.header.segments c.args.view.now.words.now c.args.b) _ _ c.all.result c.all.ensures.ran (YieldsList-from_range 0 (c.args.view.now.header.top / segment_size) (c.args.view.now.header.top / segment_size) refl (omega arith)) (λ x b q k. search (rules, tests))
+    ∙ directory_all _ c.args.view.now.words.now c.args.b z.segments (segment_count z)

@@ -13,4 +13,4 @@ pub overflow_add-h : goal.overflow_add-h
 overflow_add-h c = omega (arith, (state_of _ _ _ (sym c.state_ok.ensures ∙ c.if-state_ok.true)).room, c.read-h.ensures.sized.room)
 
 pub table_fits-requires : goal.table_fits-requires
-table_fits-requires c = (c.read-h.ensures.sized, (state_of _ _ _ (sym c.state_ok.ensures ∙ c.if-state_ok.true)).room)
+table_fits-requires c = (state_of _ _ _ (sym c.state_ok.ensures ∙ c.if-state_ok.true)).room

@@ -10,6 +10,6 @@ use Rattle.checker.proofs.front.rest_fits.Goals as goal
 
 pub returns : goal.returns
 returns c =
-    let z = c.requires.0 in
-    all_from_yields_List is_zero _ _ c.all.result c.all.ensures.ran (YieldsList-from_slice (words_in c.args.w.now (c.args.h.segments + c.args.b) (c.args.h.segments + c.args.h.top)) cc) (λ x b q k. search (rules, tests))
-    ∙ rest_all _ c.args.w.now c.args.b z.segments z.top (omega (arith, c.requires.1)) (omega (arith, z.room))
+    let z = c.args.view.now.sized in
+    all_from_yields_List is_zero _ _ c.all.result c.all.ensures.ran (YieldsList-from_slice (words_in c.args.view.now.words.now (c.args.view.now.header.segments + c.args.b) (c.args.view.now.header.segments + c.args.view.now.header.top)) cc) (λ x b q k. search (rules, tests))
+    ∙ rest_all _ c.args.view.now.words.now c.args.b z.segments z.top (omega (arith, c.requires)) (omega (arith, z.room))

@@ -16,7 +16,7 @@ walk-requires g c =
       record {
         read = p.0;
         cells = c.limit-limit.ensures;
-        marks = omega (arith, part_marks (shape_in c.args.h) g.P.Part.faults p.0.sized.ok, c.base-base.ensures, c.limit-limit.ensures);
+        marks = omega (arith, part_marks (shape_in c.args.view.now.header) g.P.Part.faults p.0.sized.ok, c.base-base.ensures, c.limit-limit.ensures);
         scratch = p.2;
       },
       tt,
@@ -32,7 +32,7 @@ walk_all-requires g c =
       record {
         read = p.0;
         cells = c.limit-limit.ensures;
-        marks = omega (arith, part_marks (shape_in c.args.h) g.P.Part.faults p.0.sized.ok, c.base-base.ensures, c.limit-limit.ensures);
+        marks = omega (arith, part_marks (shape_in c.args.view.now.header) g.P.Part.faults p.0.sized.ok, c.base-base.ensures, c.limit-limit.ensures);
         scratch = omega (arith, p.2, c.walk.auto.scratch);
       },
       omega (arith, chains_reach p.0 g.P.Part.faults p.1, c.chain_count-n.ensures),

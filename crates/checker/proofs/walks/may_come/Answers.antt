@@ -10,7 +10,7 @@ use Rattle.checker.proofs.walks.may_come.Goals.{then-i-limit, else-i-limit}
 use Rattle.checker.proofs.walks.may_come.Goals as goal
 
 pub overflow_add-base : goal.overflow_add-base
-overflow_add-base g c = omega (arith, need_ever (shape_in c.args.h))
+overflow_add-base g c = omega (arith, need_ever (shape_in c.args.view.now.header))
 
 pub returns-then-not-is_marked : goal.returns-then-not-is_marked
 returns-then-not-is_marked g c =

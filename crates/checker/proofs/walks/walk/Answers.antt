@@ -20,7 +20,7 @@ returns-then-not-may_come g c =
 pub overflow_add-base : goal.overflow_add-base
 overflow_add-base g c =
     let e = sym c.may_come.ensures ∙ c.if-not-may_come.false in
-    omega (arith, may_in _ _ _ _ _ e, c.requires.0.marks, need_ever (shape_in c.args.h))
+    omega (arith, may_in _ _ _ _ _ e, c.requires.0.marks, need_ever (shape_in c.args.view.now.header))
 
 pub mark-requires : goal.mark-requires
 mark-requires g c =
@@ -39,7 +39,7 @@ word-i-requires g c =
     let p = c.requires in
     let e = may_in _ _ _ _ _ (sym c.may_come.ensures ∙ c.if-not-may_come.false) in
     let z = p.0.cells in
-    (p.0.read.sized, omega arith, omega arith, width_some (shape_in c.args.h) g.P.Part.faults)
+    (omega arith, omega arith, width_some (shape_in c.args.view.now.header) g.P.Part.faults)
 
 pub loop-i-smaller : goal.loop-i-smaller
 loop-i-smaller g c =

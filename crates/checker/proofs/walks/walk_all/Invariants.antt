@@ -5,4 +5,4 @@ use Rattle.checker.proofs.walks.walk_all.Given as goal
 
 abbrev pub invariant-loop-j : goal.invariant-loop-j
 invariant-loop-j g l =
-    Holding (start_of (shape_in l.h) l.w g.P.Part.faults) (next_in (shape_in l.h) l.w g.P.Part.faults) l.initial.scratch l.base l.limit l.n l.scratch l.j l.total
+    Holding (start_of (shape_in l.view.header) l.view.words.now g.P.Part.faults) (next_in (shape_in l.view.header) l.view.words.now g.P.Part.faults) l.initial.scratch l.base l.limit l.n l.scratch l.j l.total

@@ -3,4 +3,4 @@ use Rattle.store.proofs.CallLaws.{enter_refused}
 use Rattle.store.proofs.enters.enter_in.Goals as goal
 
 pub returns-in-Err : goal.returns-in-Err
-returns-in-Err c = enter_refused _ c.requires _ _ c.in-Err.ensures
+returns-in-Err c = enter_refused _ c.requires _ _ (rw c.of.ensures at c.in-Err.ensures)

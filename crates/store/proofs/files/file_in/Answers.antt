@@ -3,4 +3,4 @@ use Rattle.store.proofs.CallLaws.{file_refused}
 use Rattle.store.proofs.files.file_in.Goals as goal
 
 pub returns-in-Err : goal.returns-in-Err
-returns-in-Err c = file_refused _ c.requires _ _ _ _ c.in-Err.ensures
+returns-in-Err c = file_refused _ c.requires _ _ _ _ (rw c.of.ensures at c.in-Err.ensures)

@@ -10,7 +10,7 @@ pub overflow_add-bucket-end : goal.overflow_add-bucket-end
 overflow_add-bucket-end c = omega (arith, (size_room c.args.store.now.sound c.args.store.now.read).1, c.args.store.now.read.sized.room.most)
 
 pub bucket_word-cell-requires : goal.bucket_word-cell-requires
-bucket_word-cell-requires c = (c.args.store.now.read.sized, bucket_below c.args.store.now.sound c.args.store.now.read c.loop-bucket-test.true)
+bucket_word-cell-requires c = (bucket_below c.args.store.now.sound c.args.store.now.read c.loop-bucket-test.true)
 
 pub returns-then-cell-ne0 : goal.returns-then-cell-ne0
 returns-then-cell-ne0 c =

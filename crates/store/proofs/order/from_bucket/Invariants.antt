@@ -4,4 +4,4 @@ use Rattle.store.specs.Order.{head_from}
 use Rattle.store.proofs.order.from_bucket.Given as goal
 
 abbrev pub invariant-loop-bucket : goal.invariant-loop-bucket
-invariant-loop-bucket l = head_from (decode l.store.words.now) l.bucket ≡ head_from (decode l.store.words.now) l.b
+invariant-loop-bucket l = head_from (decode l.store.view.words.now) l.bucket ≡ head_from (decode l.store.view.words.now) l.b

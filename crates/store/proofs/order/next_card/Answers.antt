@@ -12,7 +12,7 @@ use Rattle.store.proofs.order.next_card.Goals as goal
 pub card_word-cell-requires : goal.card_word-cell-requires
 card_word-cell-requires c =
     let k = card_here _ c.args.store.now.sound c.args.store.now.read c.requires.n c.requires.inside _ c.requires.is in
-    (c.args.store.now.read.sized, k.from_one, k.in_limit, word_in c.args.store.now.read.sized to_next (lit< tt))
+    (k.from_one, k.in_limit, word_in c.args.store.now.read.sized to_next (lit< tt))
 
 pub returns-then-cell-ne0 : goal.returns-then-cell-ne0
 returns-then-cell-ne0 c =
@@ -25,6 +25,3 @@ overflow_add-at c =
 pub returns : goal.returns
 returns c =
     record { next_is = λ n l e. c.from_bucket.ensures ∙ next_none c.args.store.now.sound c.args.store.now.read l e c.card_word-cell.ensures c.if-cell-ne0.false }
-
-pub from_bucket-requires : goal.from_bucket-requires
-from_bucket-requires c = (c.args.store.now.sound, c.args.store.now.read)

@@ -5,7 +5,7 @@ use Rattle.store.proofs.PlanLaws.{size_room}
 use Rattle.store.proofs.plans.buckets.Goals as goal
 
 pub overflow_add-result : goal.overflow_add-result
-overflow_add-result c = omega (arith, (size_room c.requires c.header_of-h.ensures).1, c.header_of-h.ensures.sized.room)
+overflow_add-result c = omega (arith, (size_room c.of-store.result.sound c.of-store.result.read).1, c.of-store.result.read.sized.room)
 
 pub returns : goal.returns
-returns c = omega (arith, (read_store c.header_of-h.ensures).1, (read_store c.header_of-h.ensures).2)
+returns c = let r = read_store (rw c.of-store.ensures at c.of-store.result.read) in omega (arith, r.1, r.2)

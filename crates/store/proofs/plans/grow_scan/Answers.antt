@@ -23,20 +23,20 @@ returns-then-not-must_split c =
     (rw (← c.word-n.ensures) (sym c.must_split.ensures ∙ c.if-not-must_split.true))
 
 -- past the test bucket p is split
-splits_p : (c : Else-not-must_split) → splits c.args.store.now.header.top c.args.store.now.header.upper (get_or c.args.store.now.words.now held_at 0 + 1) (c.args.store.now.header.maxp + c.args.store.now.header.p) ≡ true
+splits_p : (c : Else-not-must_split) → splits c.args.store.now.view.header.top c.args.store.now.view.header.upper (get_or c.args.store.now.view.words.now held_at 0 + 1) (c.args.store.now.view.header.maxp + c.args.store.now.view.header.p) ≡ true
 splits_p c = rw (← c.word-n.ensures) (sym c.must_split.ensures ∙ c.if-not-must_split.false)
 
 pub bucket_len-k-requires : goal.bucket_len-k-requires
-bucket_len-k-requires c = (c.args.store.now.sound, c.args.store.now.read, omega (arith, (size_room c.args.store.now.sound c.args.store.now.read).2))
+bucket_len-k-requires c = (omega (arith, (size_room c.args.store.now.sound c.args.store.now.read).2))
 
 pub overflow_add-result : goal.overflow_add-result
 overflow_add-result c =
-    omega (arith, c.bucket_len-k.ensures, bucket_room c.args.store.now.sound c.args.store.now.read {b = c.args.store.now.header.p} (omega (arith, (size_room c.args.store.now.sound c.args.store.now.read).2)))
+    omega (arith, c.bucket_len-k.ensures, bucket_room c.args.store.now.sound c.args.store.now.read {b = c.args.store.now.view.header.p} (omega (arith, (size_room c.args.store.now.sound c.args.store.now.read).2)))
 
 pub returns-then-b-h : goal.returns-then-b-h
 returns-then-b-h c =
-    rw c.bucket_len-k.ensures (rw (eq-eqb c.args.b c.args.store.now.header.p c.if-b-h.true) at (grow_some c.args.store.now.sound c.args.store.now.read c.args.b (splits_p (goal.at.returns-then-b-h c).Else-not-must_split)))
+    rw c.bucket_len-k.ensures (rw (eq-eqb c.args.b c.args.store.now.view.header.p c.if-b-h.true) at (grow_some c.args.store.now.sound c.args.store.now.read c.args.b (splits_p (goal.at.returns-then-b-h c).Else-not-must_split)))
 
 pub returns-else-b-h : goal.returns-else-b-h
 returns-else-b-h c =
-    omega (arith, c.bucket_len-k.ensures, rw (ne_eqb c.args.b c.args.store.now.header.p c.if-b-h.false) at (grow_some c.args.store.now.sound c.args.store.now.read c.args.b (splits_p (goal.at.returns-else-b-h c).Else-not-must_split)))
+    omega (arith, c.bucket_len-k.ensures, rw (ne_eqb c.args.b c.args.store.now.view.header.p c.if-b-h.false) at (grow_some c.args.store.now.sound c.args.store.now.read c.args.b (splits_p (goal.at.returns-else-b-h c).Else-not-must_split)))

@@ -18,7 +18,7 @@ valid : (c : Else-not-valid_serial) → valid_serial c.args.serial c.args.len �
 valid c = sym c.valid_serial.ensures ∙ c.if-not-valid_serial.false
 
 pub find-spot-requires : goal.find-spot-requires
-find-spot-requires c = (valid c)
+find-spot-requires c = valid (goal.at.find-spot-requires c).Else-not-valid_serial
 
 pub returns-then-is_some : goal.returns-then-is_some
 returns-then-is_some c =

@@ -37,8 +37,8 @@ returns-in_default c =
     rw c.refuse.ensures
     (file_missing _ c.args.store.now.sound c.args.store.now.read _ _ (valid (goal.at.returns-in_default c).Else-not-valid_serial) c.find-spot.ensures c.in_default.is _ _ (valid_pair (goal.at.returns-in_default c).Else-not-valid_fault))
 
-cell : (c : In-Some) → HeldCell c.args.store.now.words.now (take c.args.len c.args.serial)
-    c.args.store.now.header c.in-Some.cell
+cell : (c : In-Some) → HeldCell c.args.store.now.view.words.now (take c.args.len c.args.serial)
+    c.args.store.now.view.header c.in-Some.cell
 cell c = held_cell c.args.store.now.read (is_held (sound_is _ c.args.store.now.sound).0 _ c.find-spot.ensures c.in-Some.is)
 
 pub returns-then-word-h : goal.returns-then-word-h

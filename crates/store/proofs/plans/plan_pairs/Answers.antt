@@ -13,8 +13,8 @@ returns-in_default c =
     rw c.refuse.ensures (pairs_missing _ c.args.store.now.sound c.args.store.now.read _ _ c.requires c.find-spot.ensures c.in_default.is _)
 
 -- past the first test the card is held, and its count is that of its history
-cell : (c : In-Some) → HeldCell c.args.store.now.words.now (take c.args.len c.args.serial)
-    c.args.store.now.header c.in-Some.cell
+cell : (c : In-Some) → HeldCell c.args.store.now.view.words.now (take c.args.len c.args.serial)
+    c.args.store.now.view.header c.in-Some.cell
 cell c = held_cell c.args.store.now.read (is_held (sound_is _ c.args.store.now.sound).0 _ c.find-spot.ensures c.in-Some.is)
 
 pub card_word-n-requires : goal.card_word-n-requires

@@ -17,8 +17,5 @@ returns-in_err-plan c =
     let (y, e, q) = err_from_is_err_and {Q = λ y. y ≡ c.in_err-plan.field-0.0} c.from_residual.result c.from_residual.ensures.1 in
     rw (e, q) (withdraw_refused _ c.args.store.now.sound _ _ _ _ c.in_err-plan.ensures)
 
-pub shrink_scan-scanned-requires : goal.shrink_scan-scanned-requires
-shrink_scan-scanned-requires c = ?
-
 pub returns : goal.returns
 returns c = withdraw_accepted _ c.args.store.now.sound _ _ _ _ c.in_ok-plan.ensures _ c.shrink_scan-scanned.ensures

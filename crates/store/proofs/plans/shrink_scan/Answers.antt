@@ -20,7 +20,7 @@ returns-then-not-must_contract c =
     (rw (← c.word-n.ensures, ← c.saturating_sub.ensures) (sym c.must_contract.ensures ∙ c.if-not-must_contract.true))
 
 -- past the test the last bucket is joined
-joins : (c : Else-not-must_contract) → contracts c.args.store.now.header.lower (get_or c.args.store.now.words.now held_at 0 - 1) (c.args.store.now.header.maxp + c.args.store.now.header.p) ≡ true
+joins : (c : Else-not-must_contract) → contracts c.args.store.now.view.header.lower (get_or c.args.store.now.view.words.now held_at 0 - 1) (c.args.store.now.view.header.maxp + c.args.store.now.view.header.p) ≡ true
 joins c =
     rw (← c.word-n.ensures, ← c.saturating_sub.ensures) (sym c.must_contract.ensures ∙ c.if-not-must_contract.false)
 
@@ -28,7 +28,7 @@ pub overflow_sub-size : goal.overflow_sub-size
 overflow_sub-size c = omega (arith, (size_room c.args.store.now.sound c.args.store.now.read).0)
 
 pub bucket_len-k-requires : goal.bucket_len-k-requires
-bucket_len-k-requires c = (c.args.store.now.sound, c.args.store.now.read, omega (arith, (size_room c.args.store.now.sound c.args.store.now.read).0))
+bucket_len-k-requires c = (omega (arith, (size_room c.args.store.now.sound c.args.store.now.read).0))
 
 pub overflow_sub-size-2 : goal.overflow_sub-size-2
 overflow_sub-size-2 c = omega (arith, (size_room c.args.store.now.sound c.args.store.now.read).0)
@@ -36,8 +36,8 @@ overflow_sub-size-2 c = omega (arith, (size_room c.args.store.now.sound c.args.s
 pub returns-then-b-size : goal.returns-then-b-size
 returns-then-b-size c =
     c.saturating_sub-then-b-size.ensures ∙ rw c.bucket_len-k.ensures
-    (rw (eq-eqb c.args.b (c.args.store.now.header.maxp + c.args.store.now.header.p - 1) c.if-b-size.true) at (shrink_some c.args.store.now.sound c.args.store.now.read c.args.b (joins (goal.at.returns-then-b-size c).Else-not-must_contract)))
+    (rw (eq-eqb c.args.b (c.args.store.now.view.header.maxp + c.args.store.now.view.header.p - 1) c.if-b-size.true) at (shrink_some c.args.store.now.sound c.args.store.now.read c.args.b (joins (goal.at.returns-then-b-size c).Else-not-must_contract)))
 
 pub returns-else-b-size : goal.returns-else-b-size
 returns-else-b-size c =
-    omega (arith, c.bucket_len-k.ensures, rw (ne_eqb c.args.b (c.args.store.now.header.maxp + c.args.store.now.header.p - 1) c.if-b-size.false) at (shrink_some c.args.store.now.sound c.args.store.now.read c.args.b (joins (goal.at.returns-else-b-size c).Else-not-must_contract)))
+    omega (arith, c.bucket_len-k.ensures, rw (ne_eqb c.args.b (c.args.store.now.view.header.maxp + c.args.store.now.view.header.p - 1) c.if-b-size.false) at (shrink_some c.args.store.now.sound c.args.store.now.read c.args.b (joins (goal.at.returns-else-b-size c).Else-not-must_contract)))

@@ -9,7 +9,7 @@ use Rattle.store.proofs.FindLaws.{sound_home, home_below, home_ends, home_finds}
 use Rattle.store.proofs.search.find.Goals.{After-reader_address-bucket}
 use Rattle.store.proofs.search.find.Goals as goal
 
-home : (c : After-reader_address-bucket) → c.reader_address-bucket.result ≡ address_in (decode c.args.store.now.words.now) (take c.args.len c.args.serial)
+home : (c : After-reader_address-bucket) → c.reader_address-bucket.result ≡ address_in (decode c.args.store.now.view.words.now) (take c.args.len c.args.serial)
 home c =
     sound_home _ c.args.store.now.sound c.args.store.now.read c.args.serial c.args.len c.serial_code-code.ensures c.reader_address-bucket.ensures
 

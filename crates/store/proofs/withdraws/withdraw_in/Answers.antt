@@ -10,12 +10,12 @@ use Rattle.store.proofs.withdraws.withdraw_in.Goals.{In-Ok}
 use Rattle.store.proofs.withdraws.withdraw_in.Goals as goal
 
 pub returns-in-Err : goal.returns-in-Err
-returns-in-Err c = withdraw_refused _ c.requires _ _ _ (c.in-Err.ensures.with_room c.args.room.now refl)
+returns-in-Err c = withdraw_refused _ c.requires _ _ _ ((rw c.of.ensures at c.in-Err.ensures).with_room c.args.room.now refl)
 
 -- the plan is one for the room that was given
 plan : (c : In-Ok) → Planned (withdraw_step (decode c.args.w.now) c.args.serial c.args.len c.args.room.now).answer
     c.args.w.now c.args.serial c.args.len c.in-Ok.plan
-plan c = c.in-Ok.ensures.with_room c.args.room.now refl
+plan c = (rw c.of.ensures at c.in-Ok.ensures).with_room c.args.room.now refl
 
 pub put_history-requires : goal.put_history-requires
 put_history-requires c = (c.requires, withdraw_holds _ c.requires _ _ _ (plan (goal.at.put_history-requires c).In-Ok))
