@@ -11,12 +11,13 @@ use lib.ListN.{length, drop, get_or, length-append}
 use lib.Seq.{sets-eq}
 use borrow.Author.Tests.{eq-eqb, ne_eqb, lt-ltb, le-ltb}
 use Rattle.model.specs.Serial.{most_code}
-use Rattle.model.specs.Numbers.{short_room}
 use Rattle.model.specs.Text.{lf, space, decimal}
 use Rattle.model.specs.Report.{numbers_line, rate_line, total_lines}
 use Rattle.text.specs.Decimals.{Puts}
 use Rattle.report.specs.Rows.{row_at, row_of}
-use Rattle.report.specs.Reports.{refused_wrote}
+use Rattle.store.specs.Leaves.{wrote_of}
+use Rattle.store.specs.declared.numbers.Refusal.TheVariants.{ShortRoom}
+use Rattle.std.proofs.Common.{Ok, Err}
 use Rattle.report.specs.Texts.{row_line, row_lines, text_of, Long, PutsReport}
 use Rattle.report.specs.declared.rows.Totals.{Totals}
 
@@ -92,12 +93,12 @@ pub text_long : (rows : List ℕ) (t : Totals) → length (text_of rows t) ≡ l
 unfolding text_of
 text_long rows t = length-append (row_lines rows 1 most_code) (total_lines t.cards t.entries)
 
-pub report_refused : (text out : List ℕ) → length out < length text → PutsReport text out (refused_wrote short_room) out
+pub report_refused : (text out : List ℕ) → length out < length text → PutsReport text out (wrote_of (Err ShortRoom)) out
 report_refused text out h =
     rw (lt-ltb (length out) (length text) h) (record { answer = record { number_is = refl; count_is = refl }; out_is = refl; scratch_is = refl })
 
 pub report_written : (text out : List ℕ) {left : List ℕ} {end : ℕ} → length text ≤ length out → Puts out 0 text end left
-    → PutsReport text out (record { number = 0; count = end }) left
+    → PutsReport text out (wrote_of (Ok end)) left
 report_written text out {left} h p =
     let e : 0 + length text ≡ length text = omega arith in
     let front : left ≡ text ++ drop (length text) out = p.out_is ∙ sets-eq text out 0 (omega arith) ∙ ap (λ (n : ℕ). text ++ drop n out) e in

@@ -3,12 +3,13 @@ ghost use Rattle.std.specs.Prelude.{◌≡◌, [], ◌∷◌, ◌+◌, ◌*◌, 
 ghost use Rattle.model.specs.Serial.{most_code};
 ghost use Rattle.model.specs.Report.{numbers_line, rate_line, total_lines};
 ghost use Rattle.text.specs.Decimals.{Puts};
+ghost use Rattle.store.specs.Leaves.{wrote_of};
 ghost use Rattle.report.specs.Rows.{row_width, row_at, rows_long, row_of};
 ghost use Rattle.report.specs.Texts.{row_line, row_lines, text_of, longest_of, longest_row, longest_totals, most_rated, Long, EndsAt, PutsReport};
 
 use crate::rows;
 use crate::rows::Totals;
-use store::{Wrote, numbers};
+use store::Refusal;
 use text::{decimals, letters};
 
 // Word j of the row of code k.
@@ -167,19 +168,16 @@ fn put_totals(out: &mut [u8], at: usize, t: Totals) -> usize
     put_rate(out, q, t)
 }
 
-// The whole text at the front of the output, or 10 and nothing where it does not fit.
-pub fn put_report(out: &mut [u8], rows: &[u32], t: Totals) -> Wrote
+// The whole text at the front of the output, and its length; nothing where it does not fit.
+pub fn put_report(out: &mut [u8], rows: &[u32], t: Totals) -> Result<u32, Refusal>
     requires { (length rows.now ≡ rows_long) × (t.entries ≤ most_rated) }
-    ensures { PutsReport (text_of rows.now t) out.old result out.new }
+    ensures { PutsReport (text_of rows.now t) out.old (wrote_of result) out.new }
 {
     let n = rows_len(rows) + totals_len(t);
     if out.len() < n {
-        return crate::refuse(numbers::SHORT_ROOM);
+        return Err(Refusal::ShortRoom);
     }
     let p = put_rows(out, 0, rows);
     let q = put_totals(out, p, t);
-    Wrote {
-        number: 0,
-        count: q as u32,
-    }
+    Ok(q as u32)
 }

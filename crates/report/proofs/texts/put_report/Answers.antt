@@ -13,7 +13,7 @@ use Rattle.report.proofs.texts.put_report.Goals as goal
 pub returns-then-out-n : goal.returns-then-out-n
 returns-then-out-n c =
     let t = c.args in
-    rw c.refuse.ensures (report_refused (text_of t.rows.now t.t) t.out.now (omega (arith, text_long t.rows.now t.t)))
+    report_refused (text_of t.rows.now t.t) t.out.now (omega (arith, text_long t.rows.now t.t))
 
 -- lines and totals are one text
 whole : (c : After-put_totals-q) → let t = c.args in
