@@ -3,3 +3,4 @@ pub mod Cursor
 pub mod NumberLaws
 pub mod DecimalLaws
 pub mod Putting
+pub mod Sinking

@@ -1,7 +1,7 @@
 // Numbers as text, written into an output that has room for them.
 ghost use Rattle.std.specs.Prelude.{◌≡◌, [], ◌∷◌, ◌+◌, ◌≤◌, ◌<◌, length};
 ghost use Rattle.model.specs.Text.{digit_zero, decimal};
-ghost use Rattle.text.specs.Decimals.{Puts, Digits, marked};
+ghost use Rattle.text.specs.Decimals.{Puts, Digits};
 
 use super::letters;
 
@@ -71,13 +71,4 @@ pub fn put_decimal(out: &mut [u8], at: usize, n: u32) -> usize
     }
     out[i] = digit(m);
     end
-}
-
-// A mark and a number behind it.
-pub fn put_marked(out: &mut [u8], at: usize, mark: u8, n: u32) -> usize
-    requires { at + length (marked mark n) ≤ length out.old }
-    ensures { Puts out.old at (marked mark n) result out.new }
-{
-    let next = put_byte(out, at, mark);
-    put_decimal(out, next, n)
 }
