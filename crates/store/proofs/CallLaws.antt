@@ -5,6 +5,7 @@ use mathlib.Core.Path.{◌≡◌, refl, sym, subst, ◌∙◌}
 use mathlib.Core.Bool.{true, false}
 use mathlib.Core.List.{List, []}
 use Prim.Native.Nat.{ℕ, ◌≤◌, ◌<◌}
+use native.Mathlib.Omega.{arith}
 use lib.ListN.{length}
 use borrow.Author.Tests.{lt-ltb, le-ltb, ne_eqb}
 use Rattle.model.specs.Shape.{need}
@@ -17,6 +18,8 @@ use Rattle.model.proofs.Sound.{sound_good, words_stay}
 use Rattle.model.proofs.Cases.{enter_cases, file_cases, show_cases}
 use Rattle.model.proofs.Outcomes.{admitted}
 use Rattle.model.proofs.Refused.{refused_act}
+use Rattle.store.specs.Numbers.{number_of}
+use Rattle.store.specs.declared.numbers.Refusal.{Refusal}
 use Rattle.store.specs.Leaves.{Gives, refused_answer, Admits, Leaves, Does}
 use Rattle.store.specs.declared.answer.Answer as given
 use Rattle.store.specs.Plans.{answered, Plans}
@@ -26,6 +29,10 @@ use Rattle.store.specs.declared.plans.Plan.{Plan}
 
 refuses : (n : ℕ) {r : given.Answer} → r ≡ refused_answer n → Gives (refused n) r
 refuses n a = rw a (record { number_is = refl; comparisons_are = refl; scanned_is = refl; faults_are = refl })
+
+-- no refusal has the number of what is done
+pub refusal_some : (r : Refusal) → number_of r ≡ 0 → ⊥
+refusal_some r z = grind arith
 
 -- what the one door answers
 module _ (w scratch : List ℕ) where

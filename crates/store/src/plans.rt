@@ -9,11 +9,13 @@ ghost use Rattle.model.specs.Calls.{gives, enter_step, file_step, show_step, wit
 ghost use Rattle.reads.specs.Cells.{shape_in, Sized, Read};
 ghost use Rattle.reads.specs.Chains.{Ends};
 ghost use Rattle.store.specs.Leaves.{Gives};
+ghost use Rattle.store.specs.Numbers.{number_of};
 ghost use Rattle.store.specs.Plans.{grow_scan, shrink_scan, refused_plan, accepted_plan, answered, Plans, PlansFor};
 
 use crate::answer::Answer;
+use crate::numbers::Refusal;
+use crate::search;
 use crate::search::Spot;
-use crate::{numbers, search};
 use reads::header::Header;
 use reads::{cells, header, layout, serial};
 
@@ -32,11 +34,11 @@ pub struct Plan {
 }
 
 // A call that is refused.
-fn refuse(h: Header, number: u32, comparisons: u32, faults: u32) -> Plan
-    ensures { result ≡ refused_plan h number comparisons faults }
+fn refuse(h: Header, refusal: Refusal, comparisons: u32, faults: u32) -> Plan
+    ensures { result ≡ refused_plan h (number_of refusal) comparisons faults }
 {
     Plan {
-        number,
+        number: refusal.into(),
         comparisons,
         scanned: 0,
         faults,
@@ -48,12 +50,12 @@ fn refuse(h: Header, number: u32, comparisons: u32, faults: u32) -> Plan
 }
 
 // A call that is refused before its serial is looked for, on a store known to be sound.
-pub fn refuse_early(w: &[u32], number: u32) -> Plan
+pub fn refuse_early(w: &[u32], refusal: Refusal) -> Plan
     requires { sound w.now ≡ true }
-    ensures { Gives (gives number 0 0 0) (answered result) × Read w.now result.header }
+    ensures { Gives (gives (number_of refusal) 0 0 0) (answered result) × Read w.now result.header }
 {
     let h = header::header_of(w);
-    refuse(h, number, 0, 0)
+    refuse(h, refusal, 0, 0)
 }
 
 // A call that goes ahead where its serial was looked for.
@@ -156,15 +158,15 @@ pub fn plan_enter(w: &[u32], serial: [u8; 16], len: usize) -> Plan
     ensures { Plans (enter_step (decode w.now) serial len).answer w.now serial len result }
 {
     if !serial::valid_serial(serial, len) {
-        return refuse_early(w, numbers::BAD_SERIAL);
+        return refuse_early(w, Refusal::BadSerial);
     }
     let s = search::find(w, serial, len);
     let h = header::header_of(w);
     if s.held {
-        return refuse(h, numbers::ALREADY_HELD, s.place, 0);
+        return refuse(h, Refusal::AlreadyHeld, s.place, 0);
     }
     if header::word(w, layout::HELD_AT) == h.cards {
-        return refuse(h, numbers::CARDS_FULL, s.place, 0);
+        return refuse(h, Refusal::CardsFull, s.place, 0);
     }
     let scanned = grow_scan(w, h, s.bucket);
     accept(h, s, scanned, 0)
@@ -176,18 +178,18 @@ pub fn plan_file(w: &[u32], serial: [u8; 16], len: usize, day: u32, code: u32) -
     ensures { Plans (file_step (decode w.now) serial len day code).answer w.now serial len result }
 {
     if !serial::valid_serial(serial, len) {
-        return refuse_early(w, numbers::BAD_SERIAL);
+        return refuse_early(w, Refusal::BadSerial);
     }
     if !serial::valid_fault(day, code) {
-        return refuse_early(w, numbers::BAD_FAULT);
+        return refuse_early(w, Refusal::BadFault);
     }
     let s = search::find(w, serial, len);
     let h = header::header_of(w);
     if !s.held {
-        return refuse(h, numbers::NOT_HELD, s.place, 0);
+        return refuse(h, Refusal::NotHeld, s.place, 0);
     }
     if header::word(w, layout::FAULTS_HELD_AT) == h.faults {
-        return refuse(h, numbers::FAULTS_FULL, s.place, 0);
+        return refuse(h, Refusal::FaultsFull, s.place, 0);
     }
     let n = cells::card_word(w, h, s.cell, layout::TO_COUNT);
     accept(h, s, 0, n + 1)
@@ -201,11 +203,11 @@ fn plan_pairs(w: &[u32], serial: [u8; 16], len: usize, room: usize) -> Plan
     let s = search::find(w, serial, len);
     let h = header::header_of(w);
     if !s.held {
-        return refuse(h, numbers::NOT_HELD, s.place, 0);
+        return refuse(h, Refusal::NotHeld, s.place, 0);
     }
     let n = cells::card_word(w, h, s.cell, layout::TO_COUNT);
     if room < 2 * (n as usize) {
-        return refuse(h, numbers::SHORT_ROOM, s.place, n);
+        return refuse(h, Refusal::ShortRoom, s.place, n);
     }
     accept(h, s, 0, n)
 }
@@ -216,7 +218,7 @@ pub fn plan_show(w: &[u32], serial: [u8; 16], len: usize, room: usize) -> Plan
     ensures { PlansFor (show_step (decode w.now) serial len) room w.now serial len result }
 {
     if !serial::valid_serial(serial, len) {
-        return refuse_early(w, numbers::BAD_SERIAL);
+        return refuse_early(w, Refusal::BadSerial);
     }
     plan_pairs(w, serial, len, room)
 }
@@ -227,7 +229,7 @@ pub fn plan_withdraw(w: &[u32], serial: [u8; 16], len: usize, room: usize) -> Pl
     ensures { PlansFor (withdraw_step (decode w.now) serial len) room w.now serial len result }
 {
     if !serial::valid_serial(serial, len) {
-        return refuse_early(w, numbers::BAD_SERIAL);
+        return refuse_early(w, Refusal::BadSerial);
     }
     let t = plan_pairs(w, serial, len, room);
     if t.number != 0 {
