@@ -19,6 +19,7 @@ use Rattle.model.specs.Calls.{cleaned}
 use Rattle.model.specs.Report.{most_stores, pieces, run_sound, most_need, need_of, histories_in, all_histories}
 use Rattle.model.proofs.Sums.{total_append}
 use Rattle.model.proofs.ReportCalls.{pieces_count}
+use Rattle.report.specs.declared.rows.Row.{Row}
 use Rattle.report.specs.declared.rows.Totals.{Totals}
 use Rattle.report.specs.Rows.{blank, note_all, Takes, Noted}
 use Rattle.report.specs.Runs.{Clean, NotedAll}
@@ -166,7 +167,7 @@ module _ {run ns given : List ℕ} {most : ℕ} {rest : List ℕ} {i : ℕ} (a :
 
 -- the histories
 
-pub record Adding (run ns rows : List ℕ) (t : Totals) (rest : List ℕ) (i : ℕ) : Type 0 where
+pub record Adding (run ns : List ℕ) (rows : List Row) (t : Totals) (rest : List ℕ) (i : ℕ) : Type 0 where
   pub sum : total (λ n. n) (drop i ns) ≡ length rest
   pub sounds : all sound (stores_left rest ns i) ≡ true
   pub takes : Takes rows (total length (all_histories (stores_left rest ns i)))
@@ -189,7 +190,7 @@ bounded run ns e l =
     let s = stores_sound run ns e in
     record { cards = omega (arith, run_cards (pieces run ns) s, pieces_count run ns); entries = omega (arith, run_faults (pieces run ns) s, pieces_count run ns) }
 
-pub adding_start : (run ns rows : List ℕ) → run_sound run ns ≡ true → length ns ≤ most_stores → rows ≡ blank → Adding run ns rows (record { cards = 0; entries = 0 }) run 0
+pub adding_start : (run ns : List ℕ) (rows : List Row) → run_sound run ns ≡ true → length ns ≤ most_stores → rows ≡ blank → Adding run ns rows (record { cards = 0; entries = 0 }) run 0
 unfolding run_sound
 adding_start run ns rows e l z =
     let b = both (eqb (total (λ n. n) ns) (length run)) (all sound (pieces run ns)) e in
@@ -202,7 +203,7 @@ adding_start run ns rows e l z =
       entries = omega arith;
     }
 
-module _ {run ns rows : List ℕ} {t : Totals} {rest : List ℕ} {i : ℕ} (a : Adding run ns rows t rest i) where
+module _ {run ns : List ℕ} {rows : List Row} {t : Totals} {rest : List ℕ} {i : ℕ} (a : Adding run ns rows t rest i) where
   pub adding_end : length ns ≤ i → NotedAll run ns t rows
   unfolding all_histories note_all pieces
   adding_end h =
@@ -242,7 +243,7 @@ module _ {run ns rows : List ℕ} {t : Totals} {rest : List ℕ} {i : ℕ} (a : 
     pub adding_takes : Takes rows (total length (histories_in store))
     adding_takes = takes_less rows _ _ takes_on (omega arith)
 
-    pub adding_next : {rows' : List ℕ} {t' : Totals} → Noted store t rows t' rows' → Adding run ns rows' t' (drop here rest) (i + 1)
+    pub adding_next : {rows' : List Row} {t' : Totals} → Noted store t rows t' rows' → Adding run ns rows' t' (drop here rest) (i + 1)
     adding_next {rows'} {t'} n =
         let p : i + 1 ≡ suc i = omega arith in
         record {

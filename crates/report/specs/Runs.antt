@@ -4,6 +4,7 @@ use Rattle.model.specs.Lists.{total}
 use Rattle.model.specs.Calls.{cleaned}
 use Rattle.model.specs.Report.{pieces, all_histories}
 use Rattle.report.specs.Rows.{blank, note_all}
+use Rattle.report.specs.declared.rows.Row.{Row}
 use Rattle.report.specs.declared.rows.Totals.{Totals}
 
 -- a scratch of n bytes and more, the first n of which are zero
@@ -12,7 +13,7 @@ pub record Clean (n : ℕ) (scratch : List ℕ) : Type 0 where
   pub zero : cleaned n scratch ≡ scratch
 
 -- all histories of the run noted in blank rows, and the totals
-pub record NotedAll (run lengths : List ℕ) (r : Totals) (rows : List ℕ) : Type 0 where
+pub record NotedAll (run lengths : List ℕ) (r : Totals) (rows : List Row) : Type 0 where
   pub rows_are : rows ≡ note_all blank 0 (all_histories (pieces run lengths))
   pub cards_are : r.cards ≡ length (all_histories (pieces run lengths))
   pub entries_are : r.entries ≡ total length (all_histories (pieces run lengths))

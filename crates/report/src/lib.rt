@@ -11,6 +11,7 @@ mod rows; // rows.rt: a row for each code, in which every fault is noted once
 mod runs; // runs.rt: stores one behind another in one run of words
 mod texts; // texts.rt: the lines of the codes and the totals
 
+use rows::Row;
 use store::Refusal;
 
 // The report over a run of stores that are known to be sound: the bytes written.
@@ -18,7 +19,7 @@ pub fn report_sound(words: &[u32], lengths: &[u32], out: &mut [u8]) -> Result<u3
     requires { (run_sound words.now lengths.now ≡ true) × (length lengths.now ≤ most_stores) }
     ensures { PutsReport (report_text (all_histories (pieces words.now lengths.now))) out.old (wrote_of result) out.new }
 {
-    let mut noted = [0u32; rows::ROWS];
+    let mut noted = [Row::BLANK; rows::ROWS];
     let t = runs::note_all(words, lengths, &mut noted);
     texts::put_report(out, &noted, t)
 }
