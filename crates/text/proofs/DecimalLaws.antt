@@ -8,7 +8,8 @@ use native.Mathlib.Omega.{arith}
 use lib.Dec.{ltb}
 use lib.ListN.{length, length-append}
 use borrow.Author.Tests.{lt-ltb, le-ltb}
-use Rattle.rules.proofs.Tests.{by_cases}
+use Rattle.rules.proofs.Tests.{by_cases, lt?}
+use mathlib.Core.Logic.{⊎_elim}
 use Rattle.model.specs.Text.{digits, decimal}
 
 -- what stands behind the digits
@@ -73,6 +74,14 @@ decimal_one n h = ap length (decimal_small n h)
 
 pub decimal_less : (n : ℕ) → 10 ≤ n → n < 2 ^ 64 → length (decimal n) ≡ length (decimal (n / 10)) + 1
 decimal_less n h k = ap length (decimal_more n h k) ∙ length-append (decimal (n / 10)) ((48 + n % 10) ∷ [])
+
+-- one digit is a number below 10, and two are one from 10 on
+pub decimal_below : (n : ℕ) → n < 2 ^ 64 → length (decimal n) ≤ 1 → n < 10
+decimal_below n k h =
+    ⊎_elim (λ (l : n < 10). l) (λ (l : 10 ≤ n). absurd (omega (arith, decimal_less n l k, decimal_least (n / 10)))) (lt? n 10)
+
+pub decimal_from : (n : ℕ) → 2 ≤ length (decimal n) → 10 ≤ n
+decimal_from n h = ⊎_elim (λ (l : n < 10). absurd (omega (arith, decimal_one n l))) (λ (l : 10 ≤ n). l) (lt? n 10)
 
 -- a power of ten is not 0
 power_some : (k : ℕ) → 1 ≤ 10 ^ k
