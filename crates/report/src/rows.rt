@@ -1,16 +1,15 @@
 // A row for each code: every fault of every history is noted once, in the row of its code.
 ghost use Rattle.std.specs.Prelude.{◌≡◌, true, ◌+◌, ◌<◌, length};
 ghost use Rattle.model.specs.Lists.{total};
-ghost use Rattle.model.specs.Layout.{sound};
 ghost use Rattle.model.specs.Report.{histories_in};
 ghost use Rattle.model.specs.Meaning.{next_fault};
 ghost use Rattle.model.specs.Bounds.{cards_ever};
 ghost use Rattle.model.specs.Shape.{faults_ever};
-ghost use Rattle.reads.specs.Cells.{shape_in, Sized};
+ghost use Rattle.reads.specs.Cells.{shape_in};
 ghost use Rattle.reads.specs.Chains.{Ends};
 ghost use Rattle.report.specs.Rows.{slips_from, note_row, note_history, codes_fit, word_top, Takes, Noted};
 
-use store::Header;
+use store::{Sound, View};
 
 // The highest code.
 pub const MOST_CODE: usize = 9999;
@@ -72,16 +71,16 @@ pub struct Totals {
 
 // Notes the history from fault cell `first` on, of card n. The next cell is read before a fault is noted, and in `note_store` the next card
 // before a history is: a processor then has it sooner.
-fn note_history(w: &[u32], h: Header, first: u32, rows: &mut [Row], n: u32)
-    requires { Sized w.now h × Ends h.faults (next_fault (shape_in h) w.now) first × (codes_fit (slips_from (shape_in h) w.now first) ≡ true) × Takes rows.old (length (slips_from (shape_in h) w.now first)) }
-    ensures { rows.new ≡ note_history rows.old n (slips_from (shape_in h) w.now first) }
+fn note_history(view: &View, first: u32, rows: &mut [Row], n: u32)
+    requires { Ends view.now.header.faults (next_fault (shape_in view.now.header) view.now.words.now) first × (codes_fit (slips_from (shape_in view.now.header) view.now.words.now first) ≡ true) × Takes rows.old (length (slips_from (shape_in view.now.header) view.now.words.now first)) }
+    ensures { rows.new ≡ note_history rows.old n (slips_from (shape_in view.now.header) view.now.words.now first) }
 {
     let mut i = first;
     // Kept: no plainer: it goes along a chain of cells, each of which names the next, and no index is counted.
     while i != 0 {
-        let day = store::fault_word(w, h, i, store::TO_DAY);
-        let code = store::fault_word(w, h, i, store::TO_CODE);
-        let next = store::fault_word(w, h, i, store::TO_NEXT);
+        let day = view.fault_word(i, store::TO_DAY);
+        let code = view.fault_word(i, store::TO_CODE);
+        let next = view.fault_word(i, store::TO_NEXT);
         let row = &mut rows[code as usize];
         *row = row.noted(n, day);
         i = next;
@@ -89,20 +88,19 @@ fn note_history(w: &[u32], h: Header, first: u32, rows: &mut [Row], n: u32)
 }
 
 // Notes the histories of all cards of a sound store. The cards of the stores before it are counted, and numbered, already.
-pub fn note_store(w: &[u32], rows: &mut [Row], sum: Totals) -> Totals
-    requires { (sound w.now ≡ true) × Takes rows.old (total length (histories_in w.now)) × (sum.cards + cards_ever < word_top) × (sum.entries + faults_ever < word_top) }
-    ensures { Noted w.now sum rows.old result rows.new }
+pub fn note_store(store: &Sound, rows: &mut [Row], sum: Totals) -> Totals
+    requires { Takes rows.old (total length (histories_in store.now.view.words.now)) × (sum.cards + cards_ever < word_top) × (sum.entries + faults_ever < word_top) }
+    ensures { Noted store.now.view.words.now sum rows.old result rows.new }
 {
-    let h = store::header_of(w);
-    let entries = sum.entries + w[store::FAULTS_HELD_AT];
+    let entries = sum.entries + store.view.words[store::FAULTS_HELD_AT];
     let mut cards = sum.cards;
-    let mut next = store::first_card(w, h);
+    let mut next = store::first_card(store);
     // Kept: no plainer: each card leads to the next, as a chain does, and no index is counted.
     while let Some(at) = next {
-        let first = store::card_word(w, h, at.cell, store::TO_FIRST);
-        next = store::next_card(w, h, at);
+        let first = store.view.card_word(at.cell, store::TO_FIRST);
+        next = store::next_card(store, at);
         cards += 1;
-        note_history(w, h, first, rows, cards);
+        note_history(&store.view, first, rows, cards);
     }
     Totals { cards, entries }
 }

@@ -5,6 +5,7 @@ ghost use Rattle.report.specs.Rows.{blank};
 ghost use Rattle.report.specs.Runs.{Clean, NotedAll};
 
 use crate::rows::{self, Row, Totals};
+use store::Sound;
 
 // The most stores of a report.
 pub const MOST_STORES: usize = 8;
@@ -55,7 +56,7 @@ pub fn note_all(words: &[u32], lengths: &[u32], rows: &mut [Row]) -> Totals
     let mut rest = words;
     for &len in lengths {
         let (piece, behind) = rest.split_at(len as usize);
-        t = rows::note_store(piece, rows, t);
+        t = rows::note_store(&Sound::of(piece), rows, t);
         rest = behind;
     }
     t

@@ -9,20 +9,20 @@ use Rattle.report.proofs.rows.note_history.Goals.{In-loop-i}
 use Rattle.report.proofs.rows.note_history.Goals as goal
 
 pub loop-i-init : goal.loop-i-init
-loop-i-init c = let p = c.requires in record { ends = p.1; codes = p.2; takes = p.3; same = refl }
+loop-i-init c = let p = c.requires in record { ends = p.0; codes = p.1; takes = p.2; same = refl }
 
 -- the cell at hand is a fault's
-inside : (c : In-loop-i) → (1 ≤ c.loop-i.i) × (c.loop-i.i ≤ c.args.h.faults)
+inside : (c : In-loop-i) → (1 ≤ c.loop-i.i) × (c.loop-i.i ≤ c.args.view.now.header.faults)
 inside c = ends_here c.loop-i.invariant.ends c.loop-i-test.true
 
 pub fault_word-day-requires : goal.fault_word-day-requires
-fault_word-day-requires c = (c.requires.0, (inside c).0, (inside c).1, omega arith)
+fault_word-day-requires c = ((inside c).0, (inside c).1, omega arith)
 
 pub fault_word-code-requires : goal.fault_word-code-requires
-fault_word-code-requires c = let i = inside (goal.at.fault_word-code-requires c).In-loop-i in (c.requires.0, i.0, i.1, omega arith)
+fault_word-code-requires c = let i = inside (goal.at.fault_word-code-requires c).In-loop-i in (i.0, i.1, omega arith)
 
 pub fault_word-next-requires : goal.fault_word-next-requires
-fault_word-next-requires c = let i = inside (goal.at.fault_word-next-requires c).In-loop-i in (c.requires.0, i.0, i.1, omega arith)
+fault_word-next-requires c = let i = inside (goal.at.fault_word-next-requires c).In-loop-i in (i.0, i.1, omega arith)
 
 -- its code has a row
 pub bounds-rows-code : goal.bounds-rows-code
