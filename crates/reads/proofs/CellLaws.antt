@@ -51,6 +51,12 @@ module _ (w : List ℕ) (h : Header) (ok : shape_ok (shape_in h) ≡ true) (long
 part_word : (w : List ℕ) (a b k : ℕ) → a + b + k < length w → get_or (take (length w - a) (drop a w)) (b + k) 0 ≡ get_or w (a + b + k) 0
 part_word w a b k l = get_or-take (length w - a) (drop a w) (b + k) 0 (omega arith) ∙ get_or-drop a w (b + k) 0 ∙ ap (λ (n : ℕ). get_or w n 0) (omega arith)
 
+-- the width of a part
+pub width_some : (sh : Shape) (faults : Bool) → 0 < width_of sh faults
+unfolding width_of
+width_some sh true = omega arith
+width_some sh false = omega (arith, width_least sh)
+
 module _ {w : List ℕ} {h : Header} (s : Sized w h) where
   -- a word of the header is there, in any words as long
   pub head_in_lem : (k : ℕ) → k < directory_at → {n : ℕ} → n ≡ length w → k < n
@@ -87,6 +93,13 @@ module _ {w : List ℕ} {h : Header} (s : Sized w h) where
   cell_in_lem true i k p z a b l = rw (p, z) (fault_in_lem i k a b l)
   cell_in_lem false i k p z a b l = let y = z ∙ sym s.width in rw (p, y) (card_in i k a b (omega (arith, s.width)))
 
+  -- the words of a cell end within the words
+  pub cell_whole : (faults : Bool) (i : ℕ) {start width : ℕ} → start ≡ cond faults h.behind h.base → width ≡ width_of (shape_in h) faults
+      → 1 ≤ i → i ≤ limit_of (shape_in h) faults → start + width * (i - 1) + width ≤ length w
+  cell_whole faults i {start} {width} p z a b =
+      let y : 0 < width_of (shape_in h) faults = width_some (shape_in h) faults in
+      omega (arith, z, cell_in_lem faults i (width_of (shape_in h) faults - 1) p z a b (omega arith))
+
   pub cell_is : (faults : Bool) (i k : ℕ) {start width : ℕ} → start ≡ cond faults h.behind h.base → width ≡ width_of (shape_in h) faults
       → start + width * (i - 1) + k < length w → get_or (take (length w - start) (drop start w)) (width * (i - 1) + k) 0 ≡ cell_word (shape_in h) w faults i k
   unfolding cell_word width_of card_word fault_word cell_at
@@ -103,14 +116,3 @@ module _ {w : List ℕ} {h : Header} (s : Sized w h) where
 
   pub sized_set : {u : List ℕ} (i v : ℕ) → u ≡ set w i v → Sized u h
   sized_set i v e = sized_same (ap length e ∙ length-set w i v)
-
--- the width of a part
-pub width_some : (sh : Shape) (faults : Bool) → 0 < width_of sh faults
-unfolding width_of
-width_some sh true = omega arith
-width_some sh false = omega (arith, width_least sh)
-
-pub width_few : (sh : Shape) (faults : Bool) → width_of sh faults ≤ most_width
-unfolding width_of
-width_few sh true = omega arith
-width_few sh false = omega (arith, width_most sh)

@@ -1,11 +1,11 @@
 -- A key compared word by word: one word that differs decides (`key_differs`), and where all four agree the length does (`key_agrees`).
 -- Two cards are compared as one of them with the other's key (`key_same`, `same_differs`).
 use mathlib.Core.Path.{◌≡◌, refl, sym, ap, ◌∙◌}
-use mathlib.Core.Bool.{Bool, true, false, ◌&&◌}
+use mathlib.Core.Bool.{Bool, false, ◌&&◌}
 use mathlib.Core.List.{List}
-use Prim.Native.Nat.{ℕ, zero, suc, ◌+◌, ◌<◌}
+use Prim.Native.Nat.{ℕ, zero, suc, ◌+◌, ◌≤◌, ◌<◌}
 use native.Mathlib.Omega.{arith}
-use borrow.Author.Tests.{eqb-true, eqb-false}
+use borrow.Author.Tests.{eqb-true, eqb-false, eq-eqb}
 use lib.Dec.{eqb}
 use lib.ListN.{get_or}
 use Rattle.rules.proofs.Tests.{by_cases, both, and_true}
@@ -14,6 +14,10 @@ use Rattle.model.specs.Layout.{to_length, to_serial, serial_words, card_word}
 use Rattle.model.proofs.Lists.{all_from, from_all}
 use Rattle.reads.specs.Cells.{key_at, same_key}
 use Rattle.reads.specs.Chains.{has_key}
+
+-- the words of a key from the k-th on are those of card i
+pub record KeyFrom (sh : Shape) (w : List ℕ) (i : ℕ) (key : List ℕ) (k : ℕ) : Type 0 where
+  pub agree : (m : ℕ) → k ≤ m → m < serial_words → card_word sh w i (m + to_serial) ≡ get_or key m 0
 
 module _ (sh : Shape) (w : List ℕ) (i : ℕ) (key : List ℕ) where
   abbrev pub word_agrees : ℕ → Bool
@@ -29,11 +33,14 @@ module _ (sh : Shape) (w : List ℕ) (i : ℕ) (key : List ℕ) where
   pub key_unlike : (len : ℕ) → (k : ℕ) × (k < serial_words) × (word_agrees k ≡ false) → has_key sh w i len key ≡ false
   key_unlike len u = key_differs len u.0 u.1 (eqb-false _ _ u.2)
 
-  pub key_agrees : (len : ℕ) → ((k : ℕ) → k < serial_words → word_agrees k ≡ true) → has_key sh w i len key ≡ eqb (card_word sh w i to_length) len
+  pub key_agrees : (len k : ℕ) → k ≤ 0 → KeyFrom sh w i key k → has_key sh w i len key ≡ eqb (card_word sh w i to_length) len
   unfolding has_key
-  key_agrees len q =
-      let t = from_all word_agrees 0 serial_words (λ m l h. q m (omega arith)) in
+  key_agrees len k z q =
+      let t = from_all word_agrees 0 serial_words (λ m l h. eq-eqb _ _ (q.agree m (omega arith) h)) in
       ap (λ (b : Bool). eqb (card_word sh w i to_length) len && b) t ∙ and_true (eqb (card_word sh w i to_length) len)
+
+  pub key_alike : (len : ℕ) → ((k : ℕ) → k < serial_words → card_word sh w i (k + to_serial) ≡ get_or key k 0) → has_key sh w i len key ≡ eqb (card_word sh w i to_length) len
+  key_alike len e = key_agrees len 0 (omega arith) (record { agree = λ m l h. e m h })
 
 module _ (sh : Shape) (w : List ℕ) (i j : ℕ) where
   pub key_same : has_key sh w i (card_word sh w j to_length) (key_at sh w j) ≡ same_key sh w i j

@@ -1,9 +1,8 @@
 // Serials and faults: which are valid, and a serial's sixteen bytes packed into and out of four words.
-ghost use Rattle.std.specs.Prelude.{◌≡◌, ◌≤◌, ◌/◌, ◌%◌, ◌^◌, eqb};
+ghost use Rattle.std.specs.Prelude.{◌≡◌, eqb};
 ghost use Rattle.model.specs.Lists.{all};
 ghost use Rattle.model.specs.Serial.{allowed, valid_serial, valid_fault};
-ghost use Rattle.model.specs.Layout.{packed};
-ghost use Rattle.reads.specs.Cells.{packed_all, unpacked_all, four_bytes};
+ghost use Rattle.reads.specs.Cells.{packed_all, unpacked_all};
 
 use crate::layout;
 
@@ -32,7 +31,6 @@ pub fn valid_fault(day: u32, code: u32) -> bool
 }
 
 // Whether all bytes are allowed.
-#[tactic(auto, using(crate::proofs::Rows::list_all_is))]
 fn all_allowed(bytes: &[u8]) -> bool
     ensures { result ≡ all allowed bytes.now }
 {
@@ -40,7 +38,6 @@ fn all_allowed(bytes: &[u8]) -> bool
 }
 
 // Whether all bytes are zero.
-#[tactic(auto, using(crate::proofs::Rows::list_all_is))]
 fn all_zero(bytes: &[u8]) -> bool
     ensures { result ≡ all (eqb 0) bytes.now }
 {

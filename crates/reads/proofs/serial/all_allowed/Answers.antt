@@ -1,5 +1,5 @@
 -- `serial::all_allowed` meets its contract: std's test of all elements is the model's.
-use mathlib.Core.Path.{refl, ◌∙◌}
+use mathlib.Core.Path.{◌∙◌}
 use Rattle.std.proofs.Common.{rules, tests}
 use Rattle.std.proofs.lemmas.Iterator.{YieldsList-from_slice}
 use Rattle.std.proofs.lemmas.Iterator.Search.{all_from_yields_List}
@@ -10,4 +10,4 @@ use Rattle.reads.proofs.serial.all_allowed.Goals as goal
 pub returns : goal.returns
 returns c =
     let xs = c.args.bytes.now in
-    all_from_yields_List allowed _ _ c.all.result c.all.ensures.ran (YieldsList-from_slice xs cc) (λ x b q k. search (rules, tests)) ∙ list_all_is allowed allowed (λ x. refl) xs
+    all_from_yields_List allowed _ _ c.all.result c.all.ensures.ran (YieldsList-from_slice xs cc) (λ x b q k. search (rules, tests)) ∙ list_all_is allowed xs
