@@ -1,5 +1,5 @@
 -- `report::rows::note_history` meets its contract: the loop keeps `Noting`, and its measure is how many cells are left.
-use Rattle.std.proofs.Common.{◌≤◌, refl, ap, slice_set, arith}
+use Rattle.std.proofs.Common.{◌≤◌, ap, slice_set, arith}
 use Rattle.reads.proofs.EndsLaws.{ends_here, ends_less}
 use Rattle.report.specs.declared.rows.Row.{Row}
 use Rattle.report.specs.Rows.{row_of, noted}
@@ -7,9 +7,6 @@ use Rattle.report.proofs.RowLaws.{row_in}
 use Rattle.report.proofs.Histories.{noting_end, noting_code, noting_takes, noting_next}
 use Rattle.report.proofs.rows.note_history.Goals.{In-loop-i}
 use Rattle.report.proofs.rows.note_history.Goals as goal
-
-pub loop-i-init : goal.loop-i-init
-loop-i-init c = let p = c.requires in record { ends = p.1; codes = p.2; takes = p.3; same = refl }
 
 -- the cell at hand is a fault's
 inside : (c : In-loop-i) → (1 ≤ c.loop-i.i) × (c.loop-i.i ≤ c.args.h.faults)
