@@ -1,5 +1,5 @@
--- The tally as the code holds it is the model's, field by field; and what an answered line adds, from what it asks for and its numbers alone.
-use Rattle.std.specs.Prelude.{Bool, true, false, ◌&&◌, ℕ, ltb, Option, Some, None}
+-- The tally as the code holds it is the model's, field by field; and what an answered line adds, from what was done and its numbers alone.
+use Rattle.std.specs.Prelude.{Bool, true, false, ℕ, ltb, Option, Some, None}
 use Rattle.model.specs.Job.{plus, one}
 use Rattle.model.specs.Job as Job
 use Rattle.job.specs.declared.tally.Tally as Held
@@ -17,7 +17,7 @@ tally_of t =
       comparisons = t.comparisons;
     }
 
--- the requests that count, once their line is done
+-- what counts, once it is done
 unfoldable pub entering : Option Request → Bool
 entering None = false
 entering (Some (Enter x)) = true
@@ -39,13 +39,13 @@ filing (Some (Withdraw x)) = false
 filing (Some (File x f)) = true
 filing (Some (Show x)) = false
 
--- what it asks for, whether it was done, the buckets before and after it, and its comparisons
-unfoldable pub counted_by : Job.Tally → Option Request → Bool → ℕ → ℕ → ℕ → Job.Tally
-counted_by t request done before after comparisons =
+-- what was done, if the line was not refused, the buckets before and after it, and its comparisons
+unfoldable pub counted_by : Job.Tally → Option Request → ℕ → ℕ → ℕ → Job.Tally
+counted_by t done before after comparisons =
     record {
-      entries = plus t.entries (one (done && entering request));
-      withdrawals = plus t.withdrawals (one (done && withdrawing request));
-      filings = plus t.filings (one (done && filing request));
+      entries = plus t.entries (one (entering done));
+      withdrawals = plus t.withdrawals (one (withdrawing done));
+      filings = plus t.filings (one (filing done));
       splits = plus t.splits (one (ltb before after));
       contractions = plus t.contractions (one (ltb after before));
       comparisons = plus t.comparisons comparisons;

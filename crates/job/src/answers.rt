@@ -1,12 +1,13 @@
 // Answers as text, put into a sink: into an output that has room for them, or into a count.
 ghost use Rattle.std.specs.Prelude.{◌≡◌, ◌+◌, ◌*◌, ◌≤◌, ◌<◌, length};
 ghost use Rattle.model.specs.Job.{pair_text};
+ghost use Rattle.text.specs.Decimals.{Puts};
 ghost use Rattle.job.specs.Answers.{AnswerLong, pair_of, numbers_of, answer_of};
 
 use super::letters::COLON;
 use store::Answer;
 use text::letters::{LF, SPACE};
-use text::sink::{Count, Sink, put_marked};
+use text::sink::{Count, Sink, Writer, put_marked};
 
 // A fault: ` day:code`.
 fn put_pair<S: Sink>(sink: &mut S, day: u32, code: u32)
@@ -40,7 +41,7 @@ pub fn put_numbers<S: Sink>(sink: &mut S, answer: Answer)
 }
 
 // An answer line: the four numbers, the pairs listed, LF.
-pub fn put_answer<S: Sink>(sink: &mut S, answer: Answer, count: u32, room: &[u32])
+fn put_line<S: Sink>(sink: &mut S, answer: Answer, count: u32, room: &[u32])
     requires pairs { 2 * count ≤ length room.now }
     requires fits { length (answer_of answer.number answer.comparisons answer.scanned answer.faults count room.now) ≤ S.room sink.old }
     ensures { S.Takes sink.old (answer_of answer.number answer.comparisons answer.scanned answer.faults count room.now) sink.new }
@@ -56,6 +57,17 @@ pub fn answer_len(answer: Answer, count: u32, room: &[u32]) -> usize
     ensures { AnswerLong (answer_of answer.number answer.comparisons answer.scanned answer.faults count room.now) count result }
 {
     let mut long = Count { bytes: 0 };
-    put_answer(&mut long, answer, count, room);
+    put_line(&mut long, answer, count, room);
     long.bytes
+}
+
+// The answer line from `at` on; the place behind it.
+pub fn put_answer(out: &mut [u8], at: usize, answer: Answer, count: u32, room: &[u32]) -> usize
+    requires pairs { 2 * count ≤ length room.now }
+    requires fits { at + length (answer_of answer.number answer.comparisons answer.scanned answer.faults count room.now) ≤ length out.old }
+    ensures { Puts out.old at (answer_of answer.number answer.comparisons answer.scanned answer.faults count room.now) result out.new }
+{
+    let mut line = Writer { out, at };
+    put_line(&mut line, answer, count, room);
+    line.at
 }
