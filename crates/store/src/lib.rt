@@ -35,7 +35,8 @@ pub use reads::layout::{
 // A call on a store known to be sound, in two steps: its plan, and what the plan says.
 pub use enters::make_enter;
 pub use files::make_file;
-pub use plans::{Plan, buckets, plan_enter, plan_file, plan_show, plan_withdraw, refuse_early};
+pub use plans::{Plan, buckets, plan_enter, plan_file, plan_show, plan_withdraw};
+pub use search::{Found, Spot};
 pub use shows::put_history;
 pub use withdraws::make_withdraw;
 
