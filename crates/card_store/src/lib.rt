@@ -144,5 +144,5 @@ pub extern "C" fn reader_report(
 ) -> Wrote
     ensures { Reports (report_call words.now lengths.now scratch.old out.old) result out.new scratch.new }
 {
-    report::report(words, lengths, scratch, out)
+    report::report(words, lengths, scratch, out).into()
 }

@@ -11,7 +11,7 @@ use native.Mathlib.Numerals.{add-one}
 use native.Mathlib.Omega.{arith}
 use lib.ListN.{length, get_or, drop, drop_of_length-le, length-append, length-map}
 use Rattle.std.proofs.Common.{Option, Some, None, slice_get, ⊎_elim}
-use Rattle.std.proofs.lemmas.Option.{slice_get_past}
+use Rattle.std.proofs.lemmas.Option.{slice_get-get_or, slice_get_past}
 use lib.Seq.{drop-cons}
 use Rattle.rules.proofs.Tests.{lt?}
 use Rattle.model.specs.Lists.{join}
@@ -243,3 +243,11 @@ place_none s n l = slice_get_past (places_from 0 s.buckets) n (omega (arith, pla
 
 pub place_inside : (s : Store) (n : ℕ) {at : At} → place_of s n ≡ Some at → n < held s
 place_inside s n p = ⊎_elim (λ (l : n < held s). l) (λ (l : held s ≤ n). absurd (cc (p, place_none s n l))) (lt? n (held s))
+
+-- where no place is, no card is left
+pub place_past : (s : Store) (n : ℕ) → place_of s n ≡ None → held s ≤ n
+unfolding place_of
+place_past s n e =
+    let places = places_from 0 s.buckets in
+    let none : At = record { bucket = 0; cell = 0 } in
+    ⊎_elim (λ (l : n < held s). absurd (cc (e, slice_get-get_or places n none (omega (arith, l, places_long 0 s.buckets))))) (λ (l : held s ≤ n). l) (lt? n (held s))
