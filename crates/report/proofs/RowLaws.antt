@@ -126,14 +126,14 @@ pub blank_long : length blank ≡ rows_long
 unfolding blank
 blank_long = length-replicate {A = Row} rows_long zero_row
 
-zeros_at : (n i : ℕ) → get_or {A = Row} (replicate n zero_row) i zero_row ≡ zero_row
-zeros_at zero i = refl
-zeros_at (suc n) zero = refl
-zeros_at (suc n) (suc i) = zeros_at n i
+blanks : (n k : ℕ) → get_or {A = Row} (replicate n zero_row) k zero_row ≡ zero_row
+blanks zero k = refl
+blanks (suc n) zero = refl
+blanks (suc n) (suc k) = blanks n k
 
 pub blank_row : (k : ℕ) → row_of blank k ≡ zero_row
 unfolding row_of blank
-blank_row k = zeros_at rows_long k
+blank_row k = blanks rows_long k
 
 pub takes_blank : (m : ℕ) → m < word_top → Takes blank m
 takes_blank m h = record { long = blank_long; entries = λ k. rw (blank_row k) (omega arith); cards = λ k. rw (blank_row k) (omega arith) }

@@ -4,13 +4,14 @@ use mathlib.Core.Path.{◌≡◌, refl, sym, ap, subst, ◌∙◌}
 use mathlib.Core.Bool.{Bool, true, false, ◌&&◌}
 use mathlib.Core.List.{List, [], ◌∷◌, ◌++◌}
 use Prim.Native.Nat.{ℕ, zero, suc, ◌+◌, ◌*◌, ◌≤◌, ◌<◌, min, max}
-use native.Mathlib.Nat.{suc-min-suc}
 use native.Mathlib.Omega.{arith}
 use borrow.Author.Tests.{eq-eqb, eqb-true, eqb-false, ne_eqb}
 use lib.Dec.{eqb}
 use lib.ListN.{length, take, drop, get_or, replicate, drop_of_length-le, length-append, length-drop}
-use lib.Seq.{take_all, take-nil, drop-nil, drop-cons}
+use lib.Seq.{take_all, drop-cons}
 use Rattle.rules.proofs.Tests.{by_cases, both, and_true}
+use Rattle.std.proofs.lemmas.List.{take_min, drop_min}
+use Rattle.std.proofs.Math.Bool.{and-false}
 use Rattle.model.specs.Lists.{all, total}
 use Rattle.model.specs.Shape.{faults_ever, need}
 use Rattle.model.specs.Bounds.{cards_ever}
@@ -69,10 +70,6 @@ unfolding need_of run_sound
 testing_start run ns scratch l c =
     record { clean = subst (λ (k : List ℕ). Clean (most_need (pieces run k)) scratch) (take_all most_stores ns l) c; kept = refl; same = refl }
 
-and_false : (a : Bool) → (a && false) ≡ false
-and_false true = refl
-and_false false = refl
-
 module _ {run ns scratch₀ scratch rest : List ℕ} {i : ℕ} (a : Testing run ns scratch₀ scratch rest i) where
   pub testing_end : length ns ≤ i → eqb (length rest) 0 ≡ run_sound run ns
   unfolding pieces
@@ -104,7 +101,7 @@ module _ {run ns scratch₀ scratch rest : List ℕ} {i : ℕ} (a : Testing run 
     pub testing_stop : sound (take n rest) ≡ false → false ≡ run_sound run ns
     testing_stop e =
         let all_in = eqb (n + total (λ n. n) (drop (suc i) ns)) (length rest) in
-        sym (same_on ∙ ap (λ (b : Bool). all_in && (b && all sound (stores_left (drop n rest) ns (suc i)))) e ∙ and_false all_in)
+        sym (same_on ∙ ap (λ (b : Bool). all_in && (b && all sound (stores_left (drop n rest) ns (suc i)))) e ∙ and-false all_in)
 
     pub testing_next : {scratch' : List ℕ} → n ≤ length rest → sound (take n rest) ≡ true → scratch' ≡ scratch → Testing run ns scratch₀ scratch' (drop n rest) (i + 1)
     testing_next {scratch'} l e k =
@@ -127,22 +124,22 @@ pub record Needing (run ns given : List ℕ) (most : ℕ) (rest : List ℕ) (i :
   pub floor : need (shape_of []) ≤ most
   pub same : max most (most_need (stores_left rest given i)) ≡ need_of run ns
 
-take_within : (n : ℕ) (l : List ℕ) → take (min (length l) n) l ≡ take n l
-take_within zero l = let e : min (length l) 0 ≡ 0 = omega arith in ap (λ (k : ℕ). take k l) e
-take_within (suc n) [] = take-nil (min 0 (suc n))
-take_within (suc n) (x ∷ l) = ap (λ (k : ℕ). take k (x ∷ l)) (suc-min-suc (length l) n) ∙ ap (λ (m : List ℕ). x ∷ m) (take_within n l)
+-- the lesser of the two, written either way
+turned : (n m : ℕ) → min m n ≡ min n m
+turned n m = omega arith
 
-drop_within : (n : ℕ) (l : List ℕ) → drop (min (length l) n) l ≡ drop n l
-drop_within zero l = let e : min (length l) 0 ≡ 0 = omega arith in ap (λ (k : ℕ). drop k l) e
-drop_within (suc n) [] = drop-nil (min 0 (suc n))
-drop_within (suc n) (x ∷ l) = ap (λ (k : ℕ). drop k (x ∷ l)) (suc-min-suc (length l) n) ∙ drop_within n l
+take_few : (n : ℕ) (l : List ℕ) → take (min (length l) n) l ≡ take n l
+take_few n l = ap (λ (k : ℕ). take k l) (turned n (length l)) ∙ take_min n l
+
+drop_few : (n : ℕ) (l : List ℕ) → drop (min (length l) n) l ≡ drop n l
+drop_few n l = ap (λ (k : ℕ). drop k l) (turned n (length l)) ∙ drop_min n l
 
 pub needing_start : (run ns : List ℕ) {most : ℕ} → most ≡ need (shape_of []) → Needing run ns (take (min (length ns) most_stores) ns) most run 0
 unfolding need_of
 needing_start run ns {most} e =
     record {
       floor = omega (arith, e);
-      same = rw (take_within most_stores ns) (omega (arith, e, needs_floor (pieces run (take most_stores ns))));
+      same = rw (take_few most_stores ns) (omega (arith, e, needs_floor (pieces run (take most_stores ns))));
     }
 
 module _ {run ns given : List ℕ} {most : ℕ} {rest : List ℕ} {i : ℕ} (a : Needing run ns given most rest i) where
@@ -158,8 +155,8 @@ module _ {run ns given : List ℕ} {most : ℕ} {rest : List ℕ} {i : ℕ} (a :
   unfolding most_need
   needing_next h {k} ek {store} {behind} et eb {more} {least} el e =
       let n = get_or given i 0 in
-      let t : store ≡ take n rest = et ∙ ap (λ (m : ℕ). take m rest) ek ∙ take_within n rest in
-      let d : behind ≡ drop n rest = eb ∙ ap (λ (m : ℕ). drop m rest) ek ∙ drop_within n rest in
+      let t : store ≡ take n rest = et ∙ ap (λ (m : ℕ). take m rest) ek ∙ take_few n rest in
+      let d : behind ≡ drop n rest = eb ∙ ap (λ (m : ℕ). drop m rest) ek ∙ drop_few n rest in
       let p : i + 1 ≡ suc i = omega arith in
       let s : most_need (stores_left rest given i) ≡ max (need (shape_of (take n rest))) (most_need (stores_left (drop n rest) given (suc i))) = ap most_need (stores_on rest given i h) in
       let w : least ≡ need (shape_of (take n rest)) = el ∙ ap (λ (l : List ℕ). need (shape_of l)) t in
@@ -233,9 +230,6 @@ module _ {run ns : List ℕ} {rows : List Row} {t : Totals} {rest : List ℕ} {i
 
     takes_on : Takes rows (total length (histories_in store) + total length (all_histories behind))
     takes_on = subst (Takes rows) (ap (total length) left_on_lem ∙ total_append length (histories_in store) (all_histories behind)) a.takes
-
-    pub adding_in : here ≤ length rest
-    adding_in = omega (arith, ap (total (λ n. n)) (lengths_on rest ns i h), a.sum)
 
     pub adding_sound : sound store ≡ true
     adding_sound = sounds_on.0

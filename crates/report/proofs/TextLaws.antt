@@ -1,7 +1,7 @@
 -- The text of a report, part by part. A line is its first number and the others with a space before each (`line_parts`); the line of a code is that of
 -- its row, and none where the row has no entry (`row_some`, `row_none`); the rate stands where there are cards (`rate_some`, `rate_none`). `rows_turn`
--- is a turn of a loop over the codes. All of it is less than 32 bits count (`text_few`). A text in an output is the report that the model says: refused
--- where it does not fit, else at the front (`report_refused`, `report_written`). Assumes nothing.
+-- is a turn of a loop over the codes. All of it is less than 32 bits count (`text_few`). A text at the front of an output is the
+-- report that the model says (`report_written`). Assumes nothing.
 use lib.Dec.{ltb, eqb}
 use Prim.Native.Nat.{ℕ, zero, suc, ◌^◌, ◌+◌, ◌-◌, ◌*◌, ◌/◌, ◌%◌, ◌≤◌, ◌<◌}
 use mathlib.Core.Path.{◌≡◌, refl, sym, ap, ◌∙◌}
@@ -9,7 +9,7 @@ use mathlib.Core.List.{List, [], ◌∷◌, ◌++◌, append_assoc}
 use native.Mathlib.Omega.{arith}
 use lib.ListN.{length, drop, length-append}
 use lib.Seq.{sets-eq}
-use borrow.Author.Tests.{eq-eqb, ne_eqb, lt-ltb, le-ltb}
+use borrow.Author.Tests.{eq-eqb, ne_eqb, le-ltb}
 use Rattle.model.specs.Serial.{most_code}
 use Rattle.model.specs.Text.{lf, space, digits, decimal}
 use Rattle.model.specs.Report.{numbers_line, rate_line, total_lines}
@@ -18,8 +18,7 @@ use Rattle.rules.proofs.Tests.{by_cases}
 use Rattle.report.specs.declared.rows.Row.{Row}
 use Rattle.report.specs.Rows.{row_of}
 use Rattle.store.specs.Leaves.{wrote_of}
-use Rattle.store.specs.declared.numbers.Refusal.TheVariants.{ShortRoom}
-use Rattle.std.proofs.Common.{Ok, Err}
+use Rattle.std.proofs.Common.{Ok}
 use Rattle.report.specs.Texts.{row_line, row_lines, text_of, PutsReport}
 use Rattle.report.specs.declared.rows.Totals.{Totals}
 
@@ -120,10 +119,6 @@ text_few rows t =
     )
 
 -- the report that it is
-
-pub report_refused : (text out : List ℕ) → length out < length text → PutsReport text out (wrote_of (Err ShortRoom)) out
-report_refused text out h =
-    rw (lt-ltb (length out) (length text) h) (record { answer = record { number_is = refl; count_is = refl }; out_is = refl; scratch_is = refl })
 
 pub report_written : (text out : List ℕ) {left : List ℕ} {end : ℕ} → length text ≤ length out → Puts out 0 text end left
     → PutsReport text out (wrote_of (Ok end)) left

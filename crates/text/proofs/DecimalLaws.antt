@@ -96,3 +96,13 @@ decimal_long (suc k) n l h b =
     let q = pow-succ' 10 (suc k) in
     let more : 10 ≤ n = omega (arith, l, p, power_some k) in
     decimal_less n more b ∙ ap (λ (m : ℕ). m + 1) (decimal_long k (n / 10) (omega (arith, l, p)) (omega (arith, h, q)) (omega arith)) ∙ omega arith
+
+-- a 32-bit number has at most ten digits
+short_by : (k n : ℕ) → n < 10 ^ suc k → n < 2 ^ 64 → length (decimal n) ≤ suc k
+short_by zero n h b = omega (arith, decimal_one n (omega (arith, h)))
+short_by (suc k) n h b =
+    ⊎_elim (λ (l : n < 10). omega (arith, decimal_one n l))
+    (λ (l : 10 ≤ n). omega (arith, decimal_less n l b, short_by k (n / 10) (omega (arith, h, pow-succ' 10 (suc k))) (omega arith))) (lt? n 10)
+
+pub decimal_short : (n : ℕ) → n < 2 ^ 32 → length (decimal n) ≤ 10
+decimal_short n h = short_by 9 n (omega arith) (omega arith)

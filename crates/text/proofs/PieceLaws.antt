@@ -1,5 +1,5 @@
 -- A text taken apart at its first separator, and the lines that this gives. Assumes nothing.
-use Rattle.std.proofs.Common.{◌≡◌, ℕ, suc, ◌+◌, ◌≤◌, ◌<◌, List, [], ◌∷◌, ◌++◌, length, take, drop, get_or, Bool, Some, None, subst, position, refl, sym, ap, ◌∙◌, arith, drop-cons, add-one}
+use Rattle.std.proofs.Common.{Option, ◌⊎◌, inl, inr, ◌≡◌, ℕ, suc, ◌+◌, ◌≤◌, ◌<◌, List, [], ◌∷◌, ◌++◌, length, take, drop, get_or, Bool, Some, None, subst, position, refl, sym, ap, ◌∙◌, arith, drop-cons, add-one}
 use Rattle.std.specs.List.{position_or_len, slice_split, onto_first}
 use lib.Dec.{eqb, ltb}
 use Rattle.std.proofs.lemmas.List.{take-append-drop}
@@ -54,6 +54,14 @@ one_found sep t i e =
       first = fields_split sep t ∙ slice_split_first p t 0 l ∙ ap (λ (fs : List (List ℕ)). take n t ∷ fs) (sym (fields_split sep (drop (n + 1) t)));
     }))
     (λ h. absurd (not_some i (rw h at e)))
+
+-- so a text is one field, or has a first separator
+pub whole_or_parts : (sep : ℕ) (t : List ℕ) → (fields sep t ≡ t ∷ []) ⊎ ((i : ℕ) × Parts sep t (take i t) (drop (i + 1) t))
+whole_or_parts sep t = go (position (λ b. eqb b sep) t) refl
+  where
+    go : (r : Option ℕ) → position (λ b. eqb b sep) t ≡ r → (fields sep t ≡ t ∷ []) ⊎ ((i : ℕ) × Parts sep t (take i t) (drop (i + 1) t))
+    go None e = inl (none_found sep t e)
+    go (Some i) e = inr (i, one_found sep t i e)
 
 -- the lines of a text: its first piece is a line where the text is not empty, and the lines of what stands behind the LF follow
 pub fields_some : (sep : ℕ) (t : List ℕ) → 0 < length (fields sep t)

@@ -1,5 +1,5 @@
 // Number fields: their test and their value.
-ghost use Rattle.std.specs.Prelude.{◌≡◌, true, ◌+◌, ◌-◌, ◌*◌, ◌≤◌, ◌<◌};
+ghost use Rattle.std.specs.Prelude.{◌≡◌, true, false, MatchOption, ◌+◌, ◌-◌, ◌*◌, ◌≤◌, ◌<◌};
 ghost use Rattle.model.specs.Lists.{between, all};
 ghost use Rattle.model.specs.Text.{digit_zero, digit_nine, is_number, value_from};
 
@@ -42,4 +42,15 @@ pub fn number(field: &[u8]) -> u32
         value = with_digit(value, *digit);
     }
     value
+}
+
+// The same of any field: none where it is no number field.
+pub fn parse(field: &[u8]) -> Option<u32>
+    ensures { MatchOption result (is_number field.now ≡ false) (λ n. (is_number field.now ≡ true) × (n ≡ value_from 0 field.now)) }
+{
+    if is_number(field) {
+        Some(number(field))
+    } else {
+        None
+    }
 }

@@ -11,9 +11,6 @@ use Rattle.report.proofs.ReportCases.{cleaned_clean, report_short, report_stores
 use Rattle.report.proofs.report.Goals.{After-clear, After-contains}
 use Rattle.report.proofs.report.Goals as goal
 
-pub clear-requires : goal.clear-requires
-clear-requires c = c.if-scratch-n.false
-
 -- enough scratch, which is clean then
 enough : (c : After-clear) → let s = c.args in need_of s.words.now s.lengths.now ≤ length s.scratch.now
 enough c = rw (← c.need_of-n.ensures) c.if-scratch-n.false
@@ -50,9 +47,6 @@ returns-then-not-all_sound c =
     let at = goal.at.returns-then-not-all_sound c in
     let s = c.all_sound.ensures in
     report_unsound _ _ _ _ (enough at.After-clear) (s.1 ∙ clean at.After-clear) (some at.After-contains c.if-not-contains.false) (sym s.0 ∙ c.if-not-all_sound.true)
-
-pub report_sound-requires : goal.report_sound-requires
-report_sound-requires c = (sym c.all_sound.ensures.0 ∙ c.if-not-all_sound.false, few (goal.at.report_sound-requires c).After-contains c.if-not-contains.false)
 
 pub returns : goal.returns
 returns c =

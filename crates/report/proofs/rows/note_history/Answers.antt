@@ -1,5 +1,5 @@
 -- `report::rows::note_history` meets its contract: the loop keeps `Noting`, and its measure is how many cells are left.
-use Rattle.std.proofs.Common.{◌≤◌, refl, ap, slice_set, arith}
+use Rattle.std.proofs.Common.{◌≤◌, ap, slice_set, arith}
 use Rattle.reads.proofs.EndsLaws.{ends_here, ends_less}
 use Rattle.report.specs.declared.rows.Row.{Row}
 use Rattle.report.specs.Rows.{row_of, noted}

@@ -2,7 +2,7 @@
 use Rattle.std.proofs.Common.{◌≡◌, ℕ, suc, ◌<◌, ◌≤◌, List, [], ◌∷◌, ◌++◌, length, drop, get_or, arith, ap, ◌∙◌, append_assoc, drop-cons, drop_of_length-le, add-one}
 use Rattle.model.specs.Text.{lf, space, decimal}
 use Rattle.text.specs.Decimals.{marked}
-use Rattle.text.proofs.Sinking.{room_first, room_then, takes_then, left_all, left_less, left_room, left_none}
+use Rattle.text.proofs.Sinking.{room_first, room_then, takes_then, left_less, left_room, left_none}
 use Rattle.report.proofs.TextLaws.{marks, line_parts}
 use Rattle.report.proofs.texts.put_line.Goals as goal
 
@@ -16,9 +16,6 @@ pub put_decimal-requires : goal.put_decimal-requires
 put_decimal-requires g c =
     let t = c.args in
     room_first (decimal t.first) (marks t.others.now ++ (lf ∷ [])) (rw (line_parts t.first t.others.now) at c.requires)
-
-pub loop-number-init : goal.loop-number-init
-loop-number-init g c = left_all g.met.S.Sink.laws
 
 pub put_marked-requires : goal.put_marked-requires
 put_marked-requires g c =

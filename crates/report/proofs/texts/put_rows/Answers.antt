@@ -1,14 +1,11 @@
 -- `report::texts::put_rows` meets its contract: the lines of the codes from `code` on are what is left to put.
 use Rattle.std.proofs.Common.{◌+◌, ◌-◌, arith}
 use Rattle.model.specs.Serial.{most_code}
-use Rattle.text.proofs.Sinking.{room_first, left_all, left_less, left_room, left_none}
+use Rattle.text.proofs.Sinking.{room_first, left_less, left_room, left_none}
 use Rattle.report.specs.Rows.{row_of}
 use Rattle.report.specs.Texts.{row_line, row_lines}
 use Rattle.report.proofs.TextLaws.{rows_turn, rows_done}
 use Rattle.report.proofs.texts.put_rows.Goals as goal
-
-pub loop-code-init : goal.loop-code-init
-loop-code-init g c = (omega arith, left_all g.met.S.Sink.laws)
 
 pub put_row-requires : goal.put_row-requires
 unfolding row_of
