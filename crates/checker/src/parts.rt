@@ -17,17 +17,14 @@ pub fn part_fits<P: Chained>(w: &[u32], scratch: &mut [u8], h: Header) -> bool
     requires { Read w.now h × (h.maxp + h.p ≤ h.top) × (need (shape_in h) ≤ length scratch.old) }
     ensures { DidPart (part_of (shape_in h) w.now P.faults scratch.old) result scratch.new }
 {
-    let limit = P::limit(h);
-    let base = P::base(h);
     let first = P::free_word(w);
-    let Some(free) = walks::walk::<P>(w, scratch, h, Chain::Free, base, limit, first) else {
+    let Some(free) = walks::walk::<P>(w, scratch, h, Chain::Free, first) else {
         return false;
     };
-    let n = P::chain_count(h);
-    let Some(held) = walks::walk_all::<P>(w, scratch, h, base, limit, n) else {
+    let Some(held) = walks::walk_all::<P>(w, scratch, h, P::chain_count(h)) else {
         return false;
     };
-    held == P::held_word(w) && u64::from(free.count) + u64::from(held) == u64::from(limit)
+    held == P::held_word(w) && u64::from(free.count) + u64::from(held) == u64::from(P::limit(h))
 }
 
 // The front, then the cards, then the faults; bytes of scratch behind the marks stay.
