@@ -3,8 +3,8 @@
 -- and both parts (`front_stops`, `cards_stop`, `faults_end`).
 use mathlib.Core.Path.{◌≡◌, refl, sym, ap, subst, ◌∙◌}
 use mathlib.Core.Bool.{Bool, true, false, ◌&&◌, cond}
-use mathlib.Core.List.{List, map}
-use Prim.Native.Nat.{ℕ, ◌+◌, ◌≤◌, ◌<◌}
+use mathlib.Core.List.{List}
+use Prim.Native.Nat.{ℕ, ◌+◌, ◌*◌, ◌≤◌, ◌<◌}
 use native.Mathlib.Omega.{arith}
 use lib.Dec.{eqb}
 use lib.ListN.{length, drop, get_or}
@@ -13,13 +13,12 @@ use Rattle.model.specs.Layout.{maxp_at, p_at, free_at, free_faults_at, shape_of}
 use Rattle.reads.specs.declared.header.Header.{Header}
 use Rattle.rules.proofs.Tests.{both}
 use Rattle.rules.proofs.States.{state_of}
-use Rattle.model.specs.Lists.{from}
 use Rattle.checker.specs.declared.fits.Chain.TheVariants.{Free}
 use Rattle.reads.specs.Cells.{shape_in, Read, limit_of}
-use Rattle.checker.specs.Fits.{Suits, cell_fits}
-use Rattle.checker.specs.Walk.{walk_of, walks_from, Did, DidAll}
+use Rattle.checker.specs.Fits.{Suits}
+use Rattle.checker.specs.Walk.{Did, DidAll}
 use Rattle.reads.specs.Front.{limits_fit, offsets_fit}
-use Rattle.checker.specs.Checker.{chain_of, front_fits, next_in, start_of, base_of, reach_of, chain_count, chains_of, free_of, held_word, part_of, DidPart, checked, DidCheck}
+use Rattle.checker.specs.Checker.{chain_of, walk_in, front_fits, base_of, reach_of, chain_count, chains_of, free_of, held_word, part_of, DidPart, checked, DidCheck}
 use Rattle.checker.proofs.WalkLaws.{Kept}
 use Rattle.checker.proofs.PartLaws.{kept_part, part_marks}
 use Rattle.checker.proofs.FrontMeans.{front_is}
@@ -43,16 +42,19 @@ module _ {w : List ℕ} {h : Header} (r : Read w h) where
   suits_chain true j l = refl
   suits_chain false j l = (refl, omega (arith, l, r.sized.top))
 
-  module _ (faults : Bool) {base limit : ℕ} (b : base ≡ base_of sh faults) (l : limit ≡ limit_of sh faults) where
-    pub did_free : (bytes : List ℕ) {first n last : ℕ} {ok : Bool} {left : List ℕ} → first ≡ get_or w (cond faults free_faults_at free_at) 0
-        → Did (walk_of (cell_fits sh w faults Free) (next_in sh w faults) base limit bytes first) ok n last left → Did (free_of sh w faults bytes) ok n last left
-    unfolding free_of
-    did_free bytes f d = rw (← l, ← b, ← f) d
+  -- each cell of a part has a mark of its own within the scratch
+  pub marks_reach : (faults : Bool) → base_of sh faults + limit_of sh faults ≤ 8 * need sh
+  marks_reach faults = part_marks sh faults r.sized.ok
 
-    pub did_chains : (bytes : List ℕ) {n total : ℕ} {ok : Bool} {left : List ℕ} → n ≡ cond faults h.cards (h.maxp + h.p)
-        → DidAll (walks_from (next_in sh w faults) base limit (map (start_of sh w faults) (from 0 n)) bytes 0) ok total left → DidAll (chains_of sh w faults (chain_count sh w faults) bytes) ok total left
-    unfolding chains_of
-    did_chains bytes e d = rw (← (chains_are faults), ← l, ← b, ← e) d
+  module _ (faults : Bool) (bytes : List ℕ) {left : List ℕ} where
+    pub did_free : {first n last : ℕ} {ok : Bool} → first ≡ get_or w (cond faults free_faults_at free_at) 0 → Did (walk_in sh w faults Free bytes first) ok n last left
+        → Did (free_of sh w faults bytes) ok n last left
+    unfolding free_of
+    did_free f d = rw (← f) d
+
+    pub did_chains : {n total : ℕ} {ok : Bool} → n ≡ cond faults h.cards (h.maxp + h.p) → DidAll (chains_of sh w faults n bytes) ok total left
+        → DidAll (chains_of sh w faults (chain_count sh w faults) bytes) ok total left
+    did_chains e d = rw (← (chains_are faults), ← e) d
 
 module _ (sh : Shape) (w : List ℕ) (faults : Bool) (bytes : List ℕ) {n last : ℕ} {left : List ℕ} where
   pub part_stops : {ok : Bool} → Did (free_of sh w faults bytes) ok n last left → ok ≡ false → DidPart (part_of sh w faults bytes) false left

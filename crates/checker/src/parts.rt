@@ -16,17 +16,15 @@ pub fn part_fits<P: Chained>(view: &View, scratch: &mut [u8]) -> bool
     requires { Read view.now.words.now view.now.header × (view.now.header.maxp + view.now.header.p ≤ view.now.header.top) × (need (shape_in view.now.header) ≤ length scratch.old) }
     ensures { DidPart (part_of (shape_in view.now.header) view.now.words.now P.faults scratch.old) result scratch.new }
 {
-    let limit = P::limit(view.header);
-    let base = P::base(view.header);
     let first = P::free_word(view);
-    let Some(free) = walks::walk::<P>(view, scratch, Chain::Free, base, limit, first) else {
+    let Some(free) = walks::walk::<P>(view, scratch, Chain::Free, first) else {
         return false;
     };
-    let n = P::chain_count(view.header);
-    let Some(held) = walks::walk_all::<P>(view, scratch, base, limit, n) else {
+    let Some(held) = walks::walk_all::<P>(view, scratch, P::chain_count(view.header)) else {
         return false;
     };
-    held == P::held_word(view) && u64::from(free.count) + u64::from(held) == u64::from(limit)
+    held == P::held_word(view)
+        && u64::from(free.count) + u64::from(held) == u64::from(P::limit(view.header))
 }
 
 // The front, then the cards, then the faults; bytes of scratch behind the marks stay.

@@ -1,57 +1,42 @@
 // Walks of chains over marks: each cell is within its limit, stands in no chain walked before, and is what its chain asks.
-ghost use Rattle.std.specs.Prelude.{◌≡◌, map, ◌≤◌, ◌<◌};
-ghost use Rattle.model.specs.Lists.{from};
-ghost use Rattle.reads.specs.Cells.{shape_in};
+ghost use Rattle.std.specs.Prelude.{◌≡◌, ◌≤◌, ◌<◌};
+ghost use Rattle.reads.specs.Cells.{shape_in, limit_of};
 ghost use Rattle.checker.specs.Fits.{Suits, cell_fits};
-ghost use Rattle.checker.specs.Walk.{may_come, walk_of, walk_on, walks_from};
+ghost use Rattle.checker.specs.Walk.{may_come};
 ghost use Rattle.checker.specs.Answers.{DidWalk, DidWalks};
-ghost use Rattle.checker.specs.Checker.{Asks, next_in, start_of, reach_of};
+ghost use Rattle.checker.specs.Checker.{Asks, base_of, chain_of, first_of, reach_of, walk_in, chains_of};
 
 use crate::chained::Chained;
 use crate::fits::Chain;
 use crate::walked::Walked;
 use crate::{fits, marks};
-use reads::cells::{Part, View};
+use reads::cells::View;
 use reads::layout;
 
 // Whether cell i may come next in a chain.
-fn may_come<P: Part>(
-    view: &View,
-    scratch: &[u8],
-    chain: Chain,
-    base: usize,
-    limit: u32,
-    i: u32,
-) -> bool
-    requires { Asks view.now.words.now scratch.now view.now.header P.faults base limit × Suits view.now.header P.faults chain × (1 ≤ i) }
-    ensures { result ≡ may_come (cell_fits (shape_in view.now.header) view.now.words.now P.faults chain) scratch.now base limit i }
+fn may_come<P: Chained>(view: &View, scratch: &[u8], chain: Chain, i: u32) -> bool
+    requires { Asks view.now.words.now scratch.now view.now.header × Suits view.now.header P.faults chain × (1 ≤ i) }
+    ensures { result ≡ may_come (cell_fits (shape_in view.now.header) view.now.words.now P.faults chain) scratch.now (base_of (shape_in view.now.header) P.faults) (limit_of (shape_in view.now.header) P.faults) i }
 {
-    i <= limit
-        && !marks::is_marked(scratch, base + (i - 1) as usize)
+    i <= P::limit(view.header)
+        && !marks::is_marked(scratch, P::base(view.header) + (i - 1) as usize)
         && fits::cell_fits::<P>(view, chain, i)
 }
 
-// Follows a chain from `first` to its end, and marks each cell i as number base + i - 1.
-pub fn walk<P: Part>(
-    view: &View,
-    scratch: &mut [u8],
-    chain: Chain,
-    base: usize,
-    limit: u32,
-    first: u32,
-) -> Option<Walked>
-    requires { Asks view.now.words.now scratch.old view.now.header P.faults base limit × Suits view.now.header P.faults chain }
-    ensures { DidWalk (walk_of (cell_fits (shape_in view.now.header) view.now.words.now P.faults chain) (next_in (shape_in view.now.header) view.now.words.now P.faults) base limit scratch.old first) result scratch.new }
+// Follows a chain from `first` to its end, and marks each cell i as number i - 1 of its part.
+pub fn walk<P: Chained>(view: &View, scratch: &mut [u8], chain: Chain, first: u32) -> Option<Walked>
+    requires { Asks view.now.words.now scratch.old view.now.header × Suits view.now.header P.faults chain }
+    ensures { DidWalk (walk_in (shape_in view.now.header) view.now.words.now P.faults chain scratch.old first) result scratch.new }
 {
     let mut i = first;
     let mut count: u32 = 0;
     let mut last: u32 = 0;
     // Kept: no plainer, since each turn goes to the cell that the one before it names, and no index is counted.
     while i != 0 {
-        if !may_come::<P>(view, scratch, chain, base, limit, i) {
+        if !may_come::<P>(view, scratch, chain, i) {
             return None;
         }
-        marks::mark(scratch, base + (i - 1) as usize);
+        marks::mark(scratch, P::base(view.header) + (i - 1) as usize);
         count += 1;
         last = i;
         i = view.word::<P>(i, layout::TO_NEXT);
@@ -60,34 +45,22 @@ pub fn walk<P: Part>(
 }
 
 // The walk of chain j. Which chain it is stands in the part's impl as a literal, so that the compiler makes a loop of its own for each kind.
-fn walk_on<P: Chained>(
-    view: &View,
-    scratch: &mut [u8],
-    base: usize,
-    limit: u32,
-    j: u32,
-) -> Option<Walked>
-    requires { Asks view.now.words.now scratch.old view.now.header P.faults base limit × (j < reach_of (shape_in view.now.header) P.faults) }
-    ensures { DidWalk (walk_on (next_in (shape_in view.now.header) view.now.words.now P.faults) base limit scratch.old (start_of (shape_in view.now.header) view.now.words.now P.faults j)) result scratch.new }
+fn walk_on<P: Chained>(view: &View, scratch: &mut [u8], j: u32) -> Option<Walked>
+    requires { Asks view.now.words.now scratch.old view.now.header × (j < reach_of (shape_in view.now.header) P.faults) }
+    ensures { DidWalk (walk_in (shape_in view.now.header) view.now.words.now P.faults (chain_of P.faults j) scratch.old (first_of (shape_in view.now.header) view.now.words.now P.faults j)) result scratch.new }
 {
     let first = P::first_of(view, j);
-    walk::<P>(view, scratch, P::chain(j), base, limit, first)
+    walk::<P>(view, scratch, P::chain(j), first)
 }
 
 // The walks of chains 0 to n - 1, one after the other over the same marks: how many cells they met.
-pub fn walk_all<P: Chained>(
-    view: &View,
-    scratch: &mut [u8],
-    base: usize,
-    limit: u32,
-    n: u32,
-) -> Option<u32>
-    requires { Asks view.now.words.now scratch.old view.now.header P.faults base limit × (n ≤ reach_of (shape_in view.now.header) P.faults) }
-    ensures { DidWalks (walks_from (next_in (shape_in view.now.header) view.now.words.now P.faults) base limit (map (start_of (shape_in view.now.header) view.now.words.now P.faults) (from 0 n)) scratch.old 0) result scratch.new }
+pub fn walk_all<P: Chained>(view: &View, scratch: &mut [u8], n: u32) -> Option<u32>
+    requires { Asks view.now.words.now scratch.old view.now.header × (n ≤ reach_of (shape_in view.now.header) P.faults) }
+    ensures { DidWalks (chains_of (shape_in view.now.header) view.now.words.now P.faults n scratch.old) result scratch.new }
 {
     let mut total: u32 = 0;
     for j in 0..n {
-        let t = walk_on::<P>(view, scratch, base, limit, j)?;
+        let t = walk_on::<P>(view, scratch, j)?;
         if !P::end_fits(view, j, t.count, t.last) {
             return None;
         }

@@ -4,61 +4,36 @@ use mathlib.Core.Path.{refl, sym, ◌∙◌}
 use mathlib.Core.Bool.{false}
 use native.Mathlib.Omega.{arith}
 use borrow.Author.Tests.{eq-eqb, ne_eqb}
-use Rattle.reads.specs.Cells.{shape_in}
 use Rattle.reads.proofs.Rows.{and_rest, and_fails}
-use Rattle.checker.proofs.PartLaws.{part_marks}
 use Rattle.checker.proofs.PartRuns.{chains_reach, did_free, did_chains, part_stops, part_runs}
 use Rattle.checker.proofs.parts.part_fits.Goals as goal
 
 pub walk-requires : goal.walk-requires
-walk-requires g c =
-    let p = c.requires in (
-      record {
-        read = p.0;
-        cells = c.limit-limit.ensures;
-        marks = omega (arith, part_marks (shape_in c.args.view.now.header) g.P.Part.faults p.0.sized.ok, c.base-base.ensures, c.limit-limit.ensures);
-        scratch = p.2;
-      },
-      tt,
-    )
+walk-requires g c = let p = c.requires in (record { read = p.0; scratch = p.2 }, tt)
 
 pub returns-in_default : goal.returns-in_default
-returns-in_default g c =
-    part_stops _ _ _ _ (did_free c.requires.0 _ c.base-base.ensures c.limit-limit.ensures _ c.free_word-first.ensures c.in_default.ensures) refl
+returns-in_default g c = part_stops _ _ _ _ (did_free c.requires.0 _ _ c.free_word-first.ensures c.in_default.ensures) refl
 
 pub walk_all-requires : goal.walk_all-requires
 walk_all-requires g c =
-    let p = c.requires in (
-      record {
-        read = p.0;
-        cells = c.limit-limit.ensures;
-        marks = omega (arith, part_marks (shape_in c.args.view.now.header) g.P.Part.faults p.0.sized.ok, c.base-base.ensures, c.limit-limit.ensures);
-        scratch = omega (arith, p.2, c.walk.auto.scratch);
-      },
-      omega (arith, chains_reach p.0 g.P.Part.faults p.1, c.chain_count-n.ensures),
-    )
+    let p = c.requires in
+    (record { read = p.0; scratch = omega (arith, p.2, c.walk.auto.scratch) }, omega (arith, chains_reach p.0 g.P.Part.faults p.1, c.chain_count.ensures))
 
 pub returns-in_default-walk_all : goal.returns-in_default-walk_all
 returns-in_default-walk_all g c =
     let r = c.requires.0 in
-    let base = c.base-base.ensures in
-    let limit = c.limit-limit.ensures in
-    part_runs _ _ _ _ (did_free r _ base limit _ c.free_word-first.ensures c.in-Some.ensures) refl (did_chains r _ base limit _ c.chain_count-n.ensures c.in_default-walk_all.ensures) false refl
+    part_runs _ _ _ _ (did_free r _ _ c.free_word-first.ensures c.in-Some.ensures) refl (did_chains r _ _ c.chain_count.ensures c.in_default-walk_all.ensures) false refl
 
 pub returns-then-held-held_word : goal.returns-then-held-held_word
 returns-then-held-held_word g c =
     let r = c.requires.0 in
-    let base = c.base-base.ensures in
-    let limit = c.limit-limit.ensures in
-    part_runs _ _ _ _ (did_free r _ base limit _ c.free_word-first.ensures c.in-Some.ensures) refl (did_chains r _ base limit _ c.chain_count-n.ensures c.in-Some-walk_all.ensures) _
-    (rw (c.from.ensures, c.from-then-held-held_word.ensures, c.from-then-held-held_word-2.ensures, limit)
+    part_runs _ _ _ _ (did_free r _ _ c.free_word-first.ensures c.in-Some.ensures) refl (did_chains r _ _ c.chain_count.ensures c.in-Some-walk_all.ensures) _
+    (rw (c.from.ensures, c.from-then-held-held_word.ensures, c.from-then-held-held_word-2.ensures, c.limit.ensures)
     (sym (and_rest _ (eq-eqb _ _ (c.if-held-held_word.true ∙ c.held_word.ensures)))))
 
 pub returns-else-held-held_word : goal.returns-else-held-held_word
 returns-else-held-held_word g c =
     let r = c.requires.0 in
-    let base = c.base-base.ensures in
-    let limit = c.limit-limit.ensures in
     let d = c.if-held-held_word.false in
-    part_runs _ _ _ _ (did_free r _ base limit _ c.free_word-first.ensures c.in-Some.ensures) refl (did_chains r _ base limit _ c.chain_count-n.ensures c.in-Some-walk_all.ensures) _
+    part_runs _ _ _ _ (did_free r _ _ c.free_word-first.ensures c.in-Some.ensures) refl (did_chains r _ _ c.chain_count.ensures c.in-Some-walk_all.ensures) _
     (ne_eqb _ _ d ∙ sym (and_fails _ (ne_eqb _ _ (λ e. d (e ∙ sym c.held_word.ensures)))))

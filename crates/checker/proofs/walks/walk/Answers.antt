@@ -6,6 +6,7 @@ use native.Mathlib.Omega.{arith}
 use Rattle.reads.specs.Cells.{shape_in}
 use Rattle.checker.proofs.WalkLaws.{start, below, goes_on, walk_end, walk_bad, may_in, answers}
 use Rattle.reads.proofs.CellLaws.{width_some}
+use Rattle.checker.proofs.PartRuns.{marks_reach}
 use Rattle.model.proofs.Shapes.{need_ever}
 use Rattle.checker.proofs.walks.walk.Goals as goal
 
@@ -20,38 +21,37 @@ returns-then-not-may_come g c =
 pub overflow_add-base : goal.overflow_add-base
 overflow_add-base g c =
     let e = sym c.may_come.ensures ∙ c.if-not-may_come.false in
-    omega (arith, may_in _ _ _ _ _ e, c.requires.0.marks, need_ever (shape_in c.args.view.now.header))
+    omega (arith, c.base.ensures, may_in _ _ _ _ _ e, marks_reach c.requires.0.read g.P.Part.faults, need_ever (shape_in c.args.view.now.header))
 
 pub mark-requires : goal.mark-requires
 mark-requires g c =
     let p = c.requires in
     let e = sym c.may_come.ensures ∙ c.if-not-may_come.false in
-    omega (arith, c.loop-i.invariant, may_in _ _ _ _ _ e)
+    omega (arith, c.base.ensures, c.loop-i.invariant, may_in _ _ _ _ _ e, marks_reach p.0.read g.P.Part.faults)
 
 pub overflow_add-count : goal.overflow_add-count
 overflow_add-count g c =
     let p = c.requires in
     let e = sym c.may_come.ensures ∙ c.if-not-may_come.false in
-    omega (arith, below _ _ _ _ _ _ _ _ _ _ c.loop-i.invariant p.0.marks p.0.scratch c.loop-i-test.true e)
+    omega (arith, below _ _ _ _ _ _ _ _ _ _ c.loop-i.invariant (marks_reach p.0.read g.P.Part.faults) p.0.scratch c.loop-i-test.true e, marks_reach p.0.read g.P.Part.faults, need_ever (shape_in c.args.view.now.header))
 
 pub word-i-requires : goal.word-i-requires
 word-i-requires g c =
     let p = c.requires in
     let e = may_in _ _ _ _ _ (sym c.may_come.ensures ∙ c.if-not-may_come.false) in
-    let z = p.0.cells in
     (omega arith, omega arith, width_some (shape_in c.args.view.now.header) g.P.Part.faults)
 
 pub loop-i-smaller : goal.loop-i-smaller
 loop-i-smaller g c =
     let p = c.requires in
     let e = sym c.may_come.ensures ∙ c.if-not-may_come.false in
-    omega (arith, below _ _ _ _ _ _ _ _ _ _ c.loop-i.invariant p.0.marks p.0.scratch c.loop-i-test.true e)
+    omega (arith, below _ _ _ _ _ _ _ _ _ _ c.loop-i.invariant (marks_reach p.0.read g.P.Part.faults) p.0.scratch c.loop-i-test.true e)
 
 pub loop-i-preserved : goal.loop-i-preserved
 loop-i-preserved g c =
     let p = c.requires in
-    rw (c.mark.ensures, c.word-i.ensures)
-    (goes_on _ _ _ _ _ _ _ _ _ _ c.loop-i.invariant p.0.marks p.0.scratch c.loop-i-test.true (sym c.may_come.ensures ∙ c.if-not-may_come.false))
+    rw (c.mark.ensures, c.base.ensures, c.word-i.ensures)
+    (goes_on _ _ _ _ _ _ _ _ _ _ c.loop-i.invariant (marks_reach p.0.read g.P.Part.faults) p.0.scratch c.loop-i-test.true (sym c.may_come.ensures ∙ c.if-not-may_come.false))
 
 pub returns : goal.returns
 returns g c = answers _ _ _ _ _ _ _ _ _ _ c.loop-i.invariant true _ _ (walk_end _ _ _ _ _ _ _ _ _ c.loop-i-test.false)

@@ -3,17 +3,23 @@ use mathlib.Core.Path.{refl, sym, ◌∙◌}
 use mathlib.Core.Bool.{true, false}
 use native.Mathlib.Omega.{arith}
 use Rattle.checker.proofs.WalkLaws.{begins, ends, refuses, total_le, carries_on}
+use Rattle.model.proofs.Shapes.{need_ever}
+use Rattle.reads.specs.Cells.{shape_in}
+use Rattle.checker.specs.Checker.{chains_of}
+use Rattle.checker.proofs.PartRuns.{marks_reach}
 use Rattle.checker.proofs.walks.walk_all.Goals as goal
 
 pub loop-j-init : goal.loop-j-init
 loop-j-init g c = begins _ _ _ _ _ _
 
 pub returns-in_err-t : goal.returns-in_err-t
+unfolding chains_of
 returns-in_err-t g c =
     let d = rw c.in_err-t.was at c.walk_on.ensures in
     rw c.from_residual.ensures (refuses _ _ _ _ _ _ _ _ _ c.loop-j.invariant c.loop-j-test.true false _ _ _ d refl)
 
 pub returns-then-not-end_fits : goal.returns-then-not-end_fits
+unfolding chains_of
 returns-then-not-end_fits g c =
     let d = rw c.in_ok-t.was at c.walk_on.ensures in
     refuses _ _ _ _ _ _ _ _ _ c.loop-j.invariant c.loop-j-test.true true _ _ _ d (sym c.end_fits.ensures ∙ c.if-not-end_fits.true)
@@ -24,14 +30,17 @@ overflow_add-total g c =
     let d = rw c.in_ok-t.was at c.walk_on.ensures in
     omega (
       arith,
-      total_le _ _ _ _ _ _ _ _ _ c.loop-j.invariant c.loop-j-test.true true _ _ _ d p.marks p.scratch (sym c.end_fits.ensures ∙ c.if-not-end_fits.false),
+      total_le _ _ _ _ _ _ _ _ _ c.loop-j.invariant c.loop-j-test.true true _ _ _ d (marks_reach p.read g.P.Part.faults) p.scratch (sym c.end_fits.ensures ∙ c.if-not-end_fits.false),
+      marks_reach p.read g.P.Part.faults,
+      need_ever (shape_in c.args.view.now.header),
     )
 
 pub loop-j-preserved : goal.loop-j-preserved
 loop-j-preserved g c =
     let p = c.requires.0 in
     let d = rw c.in_ok-t.was at c.walk_on.ensures in
-    carries_on _ _ _ _ _ _ _ _ _ c.loop-j.invariant c.loop-j-test.true true _ _ _ d p.marks p.scratch (sym c.end_fits.ensures ∙ c.if-not-end_fits.false)
+    carries_on _ _ _ _ _ _ _ _ _ c.loop-j.invariant c.loop-j-test.true true _ _ _ d (marks_reach p.read g.P.Part.faults) p.scratch (sym c.end_fits.ensures ∙ c.if-not-end_fits.false)
 
 pub returns : goal.returns
+unfolding chains_of
 returns g c = ends _ _ _ _ _ _ _ _ _ c.loop-j.invariant c.loop-j-test.false
