@@ -9,7 +9,7 @@ ghost use Rattle.job.specs.Turns.{asked, PlansRequest, GoesAhead, PlansLine, ans
 use super::fields::Request;
 use super::tally::Tally;
 use super::{answers, fields, tally};
-use store::{Answer, Plan, Refusal};
+use store::{Answer, Plan, Refusal, Sound};
 
 // A line that goes ahead: what it asks for, and the plan of that.
 #[derive(Clone, Copy)]
@@ -29,17 +29,16 @@ pub struct Turned {
 pub const ROOM: usize = 2 * store::MOST_FAULTS as usize;
 
 // The plan of what is asked.
-fn plan_request(words: &[u32], request: Request) -> Result<Plan, Answer>
-    requires { sound words.now ≡ true }
-    ensures { PlansRequest words.now request result }
+fn plan_request(store: &Sound, request: Request) -> Result<Plan, Answer>
+    ensures { PlansRequest store.now.view.words.now request result }
 {
     match request {
-        Request::Enter(serial) => store::plan_enter(words, serial.bytes, serial.len),
-        Request::Withdraw(serial) => store::plan_withdraw(words, serial.bytes, serial.len, ROOM),
+        Request::Enter(serial) => store::plan_enter(store, serial.bytes, serial.len),
+        Request::Withdraw(serial) => store::plan_withdraw(store, serial.bytes, serial.len, ROOM),
         Request::File(serial, fault) => {
-            store::plan_file(words, serial.bytes, serial.len, fault.day, fault.code)
+            store::plan_file(store, serial.bytes, serial.len, fault.day, fault.code)
         }
-        Request::Show(serial) => store::plan_show(words, serial.bytes, serial.len, ROOM),
+        Request::Show(serial) => store::plan_show(store, serial.bytes, serial.len, ROOM),
     }
 }
 
@@ -49,7 +48,7 @@ fn plan_line(words: &[u32], line: &[u8]) -> Result<Ahead, Answer>
     ensures { PlansLine words.now line.now result }
 {
     let request = fields::parse(line).ok_or(Refusal::BadLine)?;
-    let plan = plan_request(words, request)?;
+    let plan = plan_request(&Sound::of(words), request)?;
     Ok(Ahead { request, plan })
 }
 

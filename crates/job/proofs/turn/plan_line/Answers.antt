@@ -14,9 +14,9 @@ returns-in_err-request c =
 pub returns-in_err-plan : goal.returns-in_err-plan
 returns-in_err-plan c =
     let t = sym (c.ok_or.ensures.ok_part ∙ ap result_ok c.in_ok-request.was) ∙ c.parse.ensures in
-    refuses_line _ _ _ _ c.from_residual-in_err-plan.ensures.1 (rw (← (asked_is _ _ _ t)) c.in_err-plan.ensures)
+    refuses_line _ _ _ _ c.from_residual-in_err-plan.ensures.1 (rw (← (asked_is _ _ _ t)) (rw c.of.ensures at c.in_err-plan.ensures))
 
 pub returns : goal.returns
 returns c =
     let t = sym (c.ok_or.ensures.ok_part ∙ ap result_ok c.in_ok-request.was) ∙ c.parse.ensures in
-    (t, c.in_ok-plan.ensures)
+    (t, rw c.of.ensures at c.in_ok-plan.ensures)

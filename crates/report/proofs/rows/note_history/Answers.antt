@@ -8,9 +8,6 @@ use Rattle.report.proofs.Histories.{noting_end, noting_code, noting_takes, notin
 use Rattle.report.proofs.rows.note_history.Goals.{In-loop-i}
 use Rattle.report.proofs.rows.note_history.Goals as goal
 
-pub loop-i-init : goal.loop-i-init
-loop-i-init c = let p = c.requires in record { ends = p.0; codes = p.1; takes = p.2; same = refl }
-
 -- the cell at hand is a fault's
 inside : (c : In-loop-i) → (1 ≤ c.loop-i.i) × (c.loop-i.i ≤ c.args.view.now.header.faults)
 inside c = ends_here c.loop-i.invariant.ends c.loop-i-test.true

@@ -6,19 +6,21 @@ use Rattle.report.proofs.runs.note_all.Goals as goal
 pub loop-len-init : goal.loop-len-init
 loop-len-init c = adding_start _ _ _ c.requires.0 c.requires.1 c.requires.2
 
+pub of-requires : goal.of-requires
+of-requires c = rw c.split_at.ensures.front (adding_sound c.loop-len.invariant c.loop-len-test.true)
+
 pub note_store-t-requires : goal.note_store-t-requires
 note_store-t-requires c =
     let l = c.loop-len.invariant in
     let b = bounded _ _ c.requires.0 c.requires.1 in (
-      rw c.split_at.ensures.front (adding_sound l c.loop-len-test.true),
-      rw c.split_at.ensures.front (adding_takes l c.loop-len-test.true),
+      rw (c.of.ensures, c.split_at.ensures.front) (adding_takes l c.loop-len-test.true),
       omega (arith, l.cards, b.cards),
       omega (arith, l.entries, b.entries),
     )
 
 pub loop-len-preserved : goal.loop-len-preserved
 loop-len-preserved c =
-    rw c.split_at.ensures.back (adding_next c.loop-len.invariant c.loop-len-test.true (rw c.split_at.ensures.front at c.note_store-t.ensures))
+    rw c.split_at.ensures.back (adding_next c.loop-len.invariant c.loop-len-test.true (rw (c.of.ensures, c.split_at.ensures.front) at c.note_store-t.ensures))
 
 pub returns : goal.returns
 returns c = adding_end c.loop-len.invariant c.loop-len-test.false
