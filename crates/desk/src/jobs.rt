@@ -119,7 +119,7 @@ fn serve(
     text: &[u8],
     file: &mut [u8],
 ) {
-    let mut out = disk::output();
+    let mut out: [u8; reader::WHOLE] = disk::room();
     let r = disk::serve(file, text, &mut out);
     let len = r.len;
     let number = r.number;
@@ -141,7 +141,7 @@ fn serve_held(
     spare: &[u8],
     text: &[u8],
 ) {
-    let mut file = disk::file_room();
+    let mut file: [u8; disk::FILE] = disk::room();
     let got = files::load(rt, path, &mut file, true);
     let len = got.len;
     if got.ok {

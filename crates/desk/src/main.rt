@@ -88,11 +88,11 @@ fn run(
 fn run_beside(rt: &HostRuntime, command: &[u8], count: usize, path: &[u8])
     requires { (3 ≤ count) × (length path.now ≤ 4096) }
 {
-    let mut name = names::buffer();
+    let mut name: [u8; names::LONGER] = disk::room();
     let a = names::beside(path, b".new", &mut name);
-    let mut last = names::buffer();
+    let mut last: [u8; names::LONGER] = disk::room();
     let b = names::beside(path, b".last", &mut last);
-    let mut spare = names::buffer();
+    let mut spare: [u8; names::LONGER] = disk::room();
     let c = names::beside(path, b".last.new", &mut spare);
     run(
         rt,

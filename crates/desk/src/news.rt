@@ -67,7 +67,7 @@ fn open(
     upper: &[u8],
     lower: &[u8],
 ) {
-    let mut file = disk::file_room();
+    let mut file: [u8; disk::FILE] = disk::room();
     let mut text = [0u8; texts::LINE];
     let r = opens::fresh(cards, faults, upper, lower, &mut file, &mut text);
     let len = r.len;

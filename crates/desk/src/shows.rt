@@ -14,7 +14,7 @@ fn show(rt: &HostRuntime, text: &[u8], path: &[u8]) {
 
 // desk check FILE
 pub fn run_check(rt: &HostRuntime, path: &[u8]) {
-    let mut file = disk::file_room();
+    let mut file: [u8; disk::FILE] = disk::room();
     let got = files::load(rt, path, &mut file, false);
     let len = got.len;
     if !got.ok {
@@ -48,7 +48,7 @@ fn show_last(rt: &HostRuntime, path: &[u8], file: &[u8], last: &[u8]) {
 
 // The saved answers in FILE.last, against the file's bytes.
 fn compare_last(rt: &HostRuntime, path: &[u8], file: &[u8], name: &[u8]) {
-    let mut last = lasts::room();
+    let mut last: [u8; lasts::ROOM] = disk::room();
     let got = files::load_last(rt, path, name, &mut last);
     let len = got.len;
     if got.ok {
@@ -58,7 +58,7 @@ fn compare_last(rt: &HostRuntime, path: &[u8], file: &[u8], name: &[u8]) {
 
 // desk last FILE, whose saved answers have this name
 pub fn run_last(rt: &HostRuntime, path: &[u8], name: &[u8]) {
-    let mut file = disk::file_room();
+    let mut file: [u8; disk::FILE] = disk::room();
     let got = files::load(rt, path, &mut file, false);
     let len = got.len;
     if !got.ok {
@@ -107,7 +107,7 @@ fn gather(rt: &HostRuntime, room: &mut [u8], sizes: &mut [u32]) -> files::Got
 
 // The report over these files.
 fn report(rt: &HostRuntime, bytes: &[u8], sizes: &[u32]) {
-    let mut out = runs::output();
+    let mut out: [u8; runs::TEXT] = disk::room();
     let r = runs::report_files(bytes, sizes, &mut out);
     let n = r.count as usize;
     if r.number != 0 {
@@ -124,7 +124,7 @@ fn report(rt: &HostRuntime, bytes: &[u8], sizes: &[u32]) {
 pub fn run_report(rt: &HostRuntime, count: usize)
     requires { count ≤ 8 }
 {
-    let mut room = runs::files_room();
+    let mut room: [u8; runs::ROOM] = disk::room();
     let mut sizes = [0u32; runs::FILES];
     let got = gather(rt, &mut room, &mut sizes[..count]);
     let len = got.len;

@@ -6,7 +6,7 @@ ghost use Rattle.text.specs.Decimals.{Puts};
 ghost use Rattle.disk.specs.Bytes.{words_of};
 ghost use Rattle.disk.specs.Check.{unseen as Check·unseen, told, seen_by, desk_check, sound_text, check_text, check_size, seen_in, Looks};
 
-use crate::{room, sized, texts, words};
+use crate::{WORDS, room, sized, texts, words};
 use store::numbers;
 
 // Room for the text.
@@ -52,8 +52,8 @@ fn see_sound(w: &[u32]) -> Seen
         faults: h.faults,
         upper: h.upper,
         lower: h.lower,
-        held: words::word(w, store::HELD_AT),
-        filed: words::word(w, store::FAULTS_HELD_AT),
+        held: w[store::HELD_AT],
+        filed: w[store::FAULTS_HELD_AT],
         buckets: store::buckets(w),
     }
 }
@@ -79,7 +79,7 @@ pub fn see(file: &[u8]) -> Seen
         return unseen();
     }
     let k = file.len() / 4;
-    let mut space = room();
+    let mut space: [u32; WORDS] = room();
     see_in(file, &mut space[..k])
 }
 

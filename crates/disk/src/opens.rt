@@ -47,7 +47,7 @@ fn fresh_for(cards: u32, faults: u32, upper: u32, lower: u32, file: &mut [u8]) -
     if WORDS < n {
         return not_made(BAD_LIMITS);
     }
-    let mut space = room();
+    let mut space: [u32; WORDS] = room();
     let number = store::open(&mut space[..n], cards, faults, upper, lower);
     if number != 0 {
         return not_made(number);

@@ -39,6 +39,9 @@ slice_bounds-space-end-2 c =
     let o = c.open-number in
     omega (arith, n.ensures, opened_long (take n.result r.result) (terms (goal.at.slice_bounds-space-end-2 c).Start) c.if-number-ne0.false o.ensures.number_is o.ensures.words_are, length-append o.new.words (drop n.result r.result))
 
+pub slice_bounds-write-end-2 : goal.slice_bounds-write-end-2
+slice_bounds-write-end-2 c = omega (arith, most_words_lem, c.requires, c.if-n-gt-WORDS.false)
+
 pub slice_bounds-write-end : goal.slice_bounds-write-end
 slice_bounds-write-end c =
     let n = c.length_for-n in
