@@ -3,6 +3,6 @@ use mathlib.Core.Path.{sym}
 use Rattle.reader.specs.Depot.{output_size}
 use Rattle.desk.proofs.jobs.serve.Goals as goal
 
-pub serve-r-requires : goal.serve-r-requires
+pub serve-served-requires : goal.serve-served-requires
 unfolding output_size
-serve-r-requires c = sym c.room-out.ensures
+serve-served-requires c = sym c.room-out.ensures
