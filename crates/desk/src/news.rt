@@ -2,6 +2,7 @@
 use crate::files::tried;
 use crate::tell::{Action, Complaint, Failure};
 use crate::{Names, argument_or, files, tell};
+use disk::opens::Fields;
 use disk::{opens, texts};
 use std::fs::File;
 use std::io::ErrorKind;
@@ -42,16 +43,18 @@ fn make<'a>(
 // The bounds are 4 and 2 where none are given.
 pub fn run<'a>(rt: &HostRuntime, names: Names<'a>) -> Result<(), Complaint<'a>> {
     let mut cards = [0u8; FIELD];
-    let c = argument_or(rt, 3, &mut cards, b"");
     let mut faults = [0u8; FIELD];
-    let f = argument_or(rt, 4, &mut faults, b"");
     let mut upper = [0u8; FIELD];
-    let u = argument_or(rt, 5, &mut upper, b"4");
     let mut lower = [0u8; FIELD];
-    let l = argument_or(rt, 6, &mut lower, b"2");
+    let fields = Fields {
+        cards: argument_or(rt, 3, &mut cards, b""),
+        faults: argument_or(rt, 4, &mut faults, b""),
+        upper: argument_or(rt, 5, &mut upper, b"4"),
+        lower: argument_or(rt, 6, &mut lower, b"2"),
+    };
     let mut file: [u8; disk::FILE] = disk::room();
     let mut text = [0u8; texts::LINE];
-    let r = opens::fresh(c, f, u, l, &mut file, &mut text);
+    let r = opens::fresh(fields, &mut file, &mut text);
     let said = &text[..r.said];
     match r.number {
         0 => make(rt, names, &file[..r.len], said),

@@ -23,7 +23,7 @@ pub fn run_check<'a>(rt: &HostRuntime, path: &'a [u8]) -> Result<(), Complaint<'
     let mut text = [0u8; looks::TEXT];
     let looked = looks::look(&file[..len], &mut text);
     let shown = show(rt, &text[..looked.len], path);
-    if looked.number == 0 {
+    if looked.sound {
         return Ok(shown?);
     }
     if let Err(failure) = shown {
@@ -62,7 +62,7 @@ fn load_sound<'a>(rt: &HostRuntime, path: &'a [u8], room: &mut [u8]) -> Result<u
 {
     let len = files::load(rt, path, room)?;
     let mut text = [0u8; looks::TEXT];
-    if looks::look(&room[..len], &mut text).number != 0 {
+    if !looks::look(&room[..len], &mut text).sound {
         return Err(Complaint::no_store(path, len));
     }
     Ok(len)

@@ -9,7 +9,7 @@ use Rattle.disk.proofs.looks.see.Goals as goal
 
 pub returns-then-not-sized : goal.returns-then-not-sized
 unfolding desk_check
-returns-then-not-sized c = let d = c.sized in rw (sym d.ensures ∙ c.if-not-sized.true) c.unseen.ensures
+returns-then-not-sized c = let d = c.sized in rw (sym d.ensures ∙ c.if-not-sized.true)
 
 pub slice_bounds-space-end : goal.slice_bounds-space-end
 slice_bounds-space-end c = let d = c.sized in omega (arith, most_words_lem, c.room-space.ensures, (sized_is _ (sym d.ensures ∙ c.if-not-sized.false)).0)

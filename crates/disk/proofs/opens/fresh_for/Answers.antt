@@ -13,7 +13,7 @@ use Rattle.disk.proofs.opens.fresh_for.Goals as goal
 
 -- what Open is asked for
 abbrev terms : Start → Terms
-terms s = asked s.args.cards s.args.faults s.args.upper s.args.lower
+terms s = asked s.args.terms.cards s.args.terms.faults s.args.terms.upper s.args.terms.lower
 
 pub returns-then-n-gt-WORDS : goal.returns-then-n-gt-WORDS
 returns-then-n-gt-WORDS c = let m = c.not_made.ensures in rw (m.0, m.1) (none_made (terms (goal.at.returns-then-n-gt-WORDS c).Start) c.args.file.now (limits_over (terms (goal.at.returns-then-n-gt-WORDS c).Start) (omega (arith, most_words_lem, c.length_for-n.ensures, c.if-n-gt-WORDS.true))))
