@@ -13,19 +13,12 @@ fn ours() -> Vec<(u32, String)> {
     Refusal::ALL.iter().map(|refusal| (refusal.number(), format!("{refusal:?}"))).collect()
 }
 
-/// BAD_LIMITS is BadLimits.
-fn as_case(constant: &str) -> String {
-    let word = |word: &str| word[..1].to_string() + &word[1..].to_lowercase();
-    constant.split('_').map(word).collect()
-}
-
 #[test]
 fn refusals_are_those_of_the_proved_code() {
     let text = read("crates/store/src/numbers.rt");
-    let constants = text.lines().filter_map(|line| line.strip_prefix("pub const ")?.split_once(": u32 = "));
-    let theirs: Vec<(u32, String)> = constants
-        .map(|(name, number)| (number.trim_end_matches(';').parse().expect("a number"), as_case(name)))
-        .collect();
+    let cases = text.lines().filter_map(|line| line.strip_prefix("    ")?.strip_suffix(',')?.split_once(" = "));
+    let theirs: Vec<(u32, String)> =
+        cases.map(|(name, number)| (number.parse().expect("a number"), name.to_string())).collect();
     assert_eq!(theirs, ours());
 }
 

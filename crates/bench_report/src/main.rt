@@ -82,14 +82,14 @@ fn run_group(
     s: Sums,
 ) -> Sums {
     let first = report::report(run, lengths, scratch, out);
-    let sums = added(s, first);
-    if first.number != 0 {
+    let sums = added(s, first.into());
+    if first.is_err() {
         return sums;
     }
     if kind != TWICE {
         return sums;
     }
-    added(sums, report::report_sound(run, lengths, out))
+    added(sums, report::report_sound(run, lengths, out).into())
 }
 
 fn lesser(a: usize, b: usize) -> usize

@@ -51,7 +51,7 @@ pub extern "C" fn reader_open(
 ) -> u32
     ensures { Opens (open_call words.old (asked cards faults upper lower)) result words.new }
 {
-    store::open(words, cards, faults, upper, lower)
+    store::number_of(store::open(words, cards, faults, upper, lower))
 }
 
 // What every call asks first: 11 for the scratch, 3 for words that are not those of a sound store, else 0.
@@ -59,7 +59,7 @@ pub extern "C" fn reader_open(
 pub extern "C" fn reader_check(words: &[u32], scratch: &mut [u8]) -> u32
     ensures { Admits words.now scratch.old result scratch.new }
 {
-    store::admit(words, scratch)
+    store::number_of(store::admit(words, scratch))
 }
 
 // Enters a card.
@@ -144,5 +144,5 @@ pub extern "C" fn reader_report(
 ) -> Wrote
     ensures { Reports (report_call words.now lengths.now scratch.old out.old) result out.new scratch.new }
 {
-    report::report(words, lengths, scratch, out)
+    report::report(words, lengths, scratch, out).into()
 }

@@ -1,50 +1,61 @@
--- The text of an answer, pair by pair and as a whole: `pairs_turn` is a turn of the loop over the pairs, and `answer_text_lem` says that the
--- text from plain numbers is the model's. Assumes nothing.
-use Prim.Native.Nat.{ℕ, suc, ◌+◌, ◌-◌, ◌≤◌, ◌<◌}
+-- The text of an answer, pair by pair and as a whole: `pairs_front` is a turn of the loop over the pairs, `answer_most` bounds the length, and
+-- `answer_text_lem` says that the text from plain numbers is the model's. Assumes nothing.
+use Prim.Native.Nat.{ℕ, zero, suc, ◌+◌, ◌*◌, ◌^◌, ◌≤◌, ◌<◌}
 use mathlib.Core.Path.{◌≡◌, refl, sym, ap}
 use mathlib.Core.List.{List, [], ◌∷◌, ◌++◌, append_assoc}
 use native.Mathlib.Omega.{arith}
-use lib.ListN.{length, drop, get_or, length-append}
-use lib.Seq.{drop-cons}
+use lib.ListN.{length, take, get_or, length-append}
 use Rattle.model.specs.Model.{Fault}
 use Rattle.model.specs.Calls.{Step, pairs}
 use Rattle.model.specs.Text.{decimal}
 use Rattle.model.specs.Job.{Line, pair_text, listed, answer_text}
+use Rattle.store.specs.declared.answer.Answer.{Answer}
 use Rattle.text.specs.Decimals.{marked}
+use Rattle.text.proofs.DecimalLaws.{decimal_short}
 use Rattle.job.specs.Answers.{pair_of, numbers_of, answer_of}
 
--- how long a pair is, and the whole answer
-pub pair_long : (day code : ℕ) → length (pair_of day code) ≡ 2 + length (decimal day) + length (decimal code)
-unfolding pair_of marked
-pair_long day code = omega (arith, length-append (32 ∷ decimal day) (58 ∷ decimal code))
+-- the words of pairs as text, two by two
+unfoldable pub pairs_of : List ℕ → List ℕ
+pairs_of [] = []
+pairs_of (d ∷ []) = []
+pairs_of (d ∷ c ∷ rest) = pair_of d c ++ pairs_of rest
 
-pub answer_long : (number comparisons scanned faults count : ℕ) (room : List ℕ)
-    → length (answer_of number comparisons scanned faults count room)
-    ≡ length (decimal number) + length (decimal comparisons) + length (decimal scanned) + length (decimal faults) + length (pair_text count room) + 4
-unfolding answer_of numbers_of marked
-answer_long number comparisons scanned faults count room = simp length-append (omega arith)
+pub pairs_taken : (n : ℕ) (room : List ℕ) → 2 * n ≤ length room → pair_text n room ≡ pairs_of (take (2 * n) room)
+unfolding pair_text pairs_of pair_of marked
+pairs_taken zero room h = refl
+pairs_taken (suc n) [] h = absurd (omega arith)
+pairs_taken (suc n) (d ∷ []) h = absurd (omega arith)
+pairs_taken (suc n) (d ∷ c ∷ rest) h =
+    let e : 2 * suc n ≡ suc (suc (2 * n)) = omega arith in
+    rw (e, pairs_taken n rest (omega arith)) (ap (λ (l : List ℕ). 32 ∷ l) (sym (append_assoc (decimal d) (58 ∷ decimal c) (pairs_of (take (2 * n) rest)))))
 
--- the pairs from word i of the room on
-pairs_first : (n d c : ℕ) (rest : List ℕ) → pair_text (suc n) (d ∷ c ∷ rest) ≡ pair_of d c ++ pair_text n rest
-unfolding pair_text pair_of marked
-pairs_first n d c rest = ap (λ (l : List ℕ). 32 ∷ l) (sym (append_assoc (decimal d) (58 ∷ decimal c) (pair_text n rest)))
+pub pairs_front : (x rest : List ℕ) → length x ≡ 2 → pairs_of (x ++ rest) ≡ pair_of (get_or x 0 0) (get_or x 1 0) ++ pairs_of rest
+unfolding pairs_of
+pairs_front [] rest h = absurd (omega arith)
+pairs_front (d ∷ []) rest h = absurd (omega arith)
+pairs_front (d ∷ c ∷ []) rest h = refl
+pairs_front (d ∷ c ∷ x ∷ xs) rest h = absurd (omega arith)
 
-pairs_next : (n : ℕ) (room : List ℕ) (i : ℕ) → i + 1 < length room
-    → pair_text (suc n) (drop i room) ≡ pair_of (get_or room i 0) (get_or room (i + 1) 0) ++ pair_text n (drop (i + 2) room)
-pairs_next n room i h =
-    let e1 : i + 1 ≡ suc i = omega arith in
-    let e2 : i + 2 ≡ suc (suc i) = omega arith in
-    rw (e1, e2, drop-cons room i 0 (omega arith), drop-cons room (suc i) 0 (omega arith)) (pairs_first n _ _ _)
+pub pairs_end : (l : List ℕ) → length l < 2 → pairs_of l ≡ []
+unfolding pairs_of
+pairs_end [] h = refl
+pairs_end (d ∷ []) h = refl
+pairs_end (d ∷ c ∷ rest) h = absurd (omega arith)
 
-pub pairs_turn : (count k : ℕ) (room : List ℕ) (i : ℕ) → k < count → i + 1 < length room
-    → pair_text (count - k) (drop i room) ≡ pair_of (get_or room i 0) (get_or room (i + 1) 0) ++ pair_text (count - (k + 1)) (drop (i + 2) room)
-pairs_turn count k room i h r =
-    let e : count - k ≡ suc (count - (k + 1)) = omega arith in
-    rw e (pairs_next (count - (k + 1)) room i r)
-
-pub pairs_done : (count k : ℕ) (room : List ℕ) → count ≤ k → pair_text (count - k) room ≡ []
+-- how long an answer of 32-bit numbers is at most
+pairs_most : (count : ℕ) (room : List ℕ) → ((k : ℕ) → get_or room k 0 < 2 ^ 32) → length (pair_text count room) ≤ 22 * count
 unfolding pair_text
-pairs_done count k room h = let e : count - k ≡ 0 = omega arith in rw e
+pairs_most zero room h = omega arith
+pairs_most (suc n) [] h = omega arith
+pairs_most (suc n) (d ∷ []) h = omega arith
+pairs_most (suc n) (d ∷ c ∷ rest) h =
+    simp length-append (omega (arith, decimal_short d (h 0), decimal_short c (h 1), pairs_most n rest (λ k. h (suc (suc k)))))
+
+pub answer_most : (a : Answer) (count : ℕ) (room : List ℕ) → a.number < 2 ^ 32 → a.comparisons < 2 ^ 32 → a.scanned < 2 ^ 32 → a.faults < 2 ^ 32
+    → ((k : ℕ) → get_or room k 0 < 2 ^ 32) → length (answer_of a.number a.comparisons a.scanned a.faults count room) ≤ 44 + 22 * count
+unfolding answer_of numbers_of marked
+answer_most a count room n c s f h =
+    simp length-append (omega (arith, decimal_short a.number n, decimal_short a.comparisons c, decimal_short a.scanned s, decimal_short a.faults f, pairs_most count room h))
 
 -- the room behind the pairs of a history is not read
 pub pairs_only : (h : List Fault) (rest : List ℕ) → pair_text (length h) (pairs h ++ rest) ≡ pair_text (length h) (pairs h)

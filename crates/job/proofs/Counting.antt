@@ -1,18 +1,27 @@
--- What the code adds to the tally is what the model counts. Assumes nothing.
-use mathlib.Core.Path.{◌≡◌, refl}
-use lib.Dec.{eqb}
+-- What the code adds to the tally is what the model counts: for a line that is done by what it told, and nothing for one that is refused.
+-- Assumes nothing.
+use Rattle.std.proofs.Common.{◌≡◌, Some, None}
+use borrow.Author.Tests.{ne_eqb}
 use Rattle.model.specs.Model.{Store, size}
 use Rattle.model.specs.Calls.{Step}
 use Rattle.model.specs.Job.{Line, bad, enter, show, withdraw, file, Tally, counted}
 use Rattle.model.specs.Job as Job
-use Rattle.job.specs.Told.{kind_in}
+use Rattle.job.specs.declared.fields.Request.{Request}
+use Rattle.job.specs.Told.{Told, request_in}
 use Rattle.job.specs.Counts.{entering, withdrawing, filing, counted_by}
 
-pub counted_by_lem : (t : Tally) (s : Store) (l : Line) (r : Step)
-    → counted t s l r ≡ counted_by t (kind_in l) (eqb r.answer.number 0) (size s) (size r.store) r.answer.comparisons
-unfolding counted counted_by kind_in Job.entering Job.withdrawing Job.filing entering withdrawing filing
-counted_by_lem t s bad r = refl
-counted_by_lem t s (enter f) r = refl
-counted_by_lem t s (show f) r = refl
-counted_by_lem t s (withdraw f) r = refl
-counted_by_lem t s (file f day code) r = refl
+module _ (t : Tally) (s : Store) (r : Step) where
+  counted_line : (l : Line) → r.answer.number ≡ 0 → counted t s l r ≡ counted_by t (request_in l) (size s) (size r.store) r.answer.comparisons
+  unfolding counted counted_by request_in Job.entering Job.withdrawing Job.filing entering withdrawing filing
+  counted_line bad z = rw z
+  counted_line (enter f) z = rw z
+  counted_line (show f) z = rw z
+  counted_line (withdraw f) z = rw z
+  counted_line (file f day code) z = rw z
+
+  pub counted_done : (l : Line) (q : Request) → Told l (Some q) → r.answer.number ≡ 0 → counted t s l r ≡ counted_by t (Some q) (size s) (size r.store) r.answer.comparisons
+  counted_done l q e z = rw e (counted_line l z)
+
+  pub counted_refused : (l : Line) → (r.answer.number ≡ 0 → ⊥) → counted t s l r ≡ counted_by t None (size s) (size r.store) r.answer.comparisons
+  unfolding counted counted_by entering withdrawing filing
+  counted_refused l n = rw (ne_eqb r.answer.number 0 n)

@@ -1,25 +1,30 @@
 -- The forms of a line by the tests that the code makes: its length, its first field, how many fields it has. Assumes nothing.
 use Prim.Native.Nat.{ℕ, ◌+◌, ◌≤◌, ◌<◌}
 use mathlib.Core.Path.{◌≡◌, refl, sym, ap, ◌∙◌}
-use mathlib.Core.List.{List, [], ◌∷◌}
-use mathlib.Core.Bool.{true, false}
+use mathlib.Core.List.{List, [], ◌∷◌, ◌++◌}
+use mathlib.Core.Logic.{⊎_elim}
+use mathlib.Core.Bool.{Bool, true, false, ◌&&◌}
 use native.Mathlib.Omega.{arith}
 use lib.ListN.{length, take, drop, get_or}
-use lib.Seq.{length-take-le}
 use borrow.Author.Tests.{lt-ltb, le-ltb, ne_eqb}
 use Rattle.rules.proofs.Tests.{by_cases}
-use Rattle.model.specs.Lists.{same}
+use Rattle.model.specs.Lists.{same, between, all}
 use Rattle.model.specs.Text.{fields, is_number, value_from}
 use Rattle.model.specs.Job.{Line, bad, enter, show, withdraw, file, two, four, from_fields, line_of}
 use Rattle.model.proofs.Lists.{same_eq}
-use Rattle.text.specs.Pieces.{piece_end, span}
-use Rattle.text.proofs.Cursor.{span_front, fields_walk, fields_last, fields_some}
-use Rattle.job.specs.Told.{Told}
-use Rattle.job.specs.declared.fields.Parsed.{Parsed}
+use Rattle.std.proofs.Common.{Option, None}
+use Rattle.text.specs.Pieces.{Parts}
+use Rattle.job.specs.Told.{Told, request_in}
+use Rattle.job.specs.declared.fields.Request.{Request}
+use Rattle.text.proofs.PieceLaws.{fields_some, whole_or_parts}
 
 -- what is told of a line is told of any line that it equals
-pub as_line : (l m : Line) (p : Parsed) → l ≡ m → Told m p → Told l p
-as_line l m p e t = rw e t
+pub told_as : (l m : Line) {r : Option Request} → l ≡ m → Told m r → Told l r
+told_as l m e t = rw e t
+
+pub told_none : (l : Line) {r : Option Request} → l ≡ bad → r ≡ None → Told l r
+unfolding request_in
+told_none l e n = rw e n
 
 -- two fields, and four
 
@@ -80,49 +85,67 @@ pub line_short : (l : List ℕ) → length l ≤ 64 → line_of l ≡ from_field
 unfolding line_of
 line_short l h = rw (le-ltb 64 (length l) h)
 
--- a line by its cursor
+-- a line by its first separator: one field, one of two fields, and one of more
+
+one_byte : (f : List ℕ) → length f ≡ 1 → f ≡ get_or f 0 0 ∷ []
+one_byte [] h = absurd (omega arith)
+one_byte (b ∷ []) h = refl
+one_byte (b ∷ c ∷ f) h = absurd (omega arith)
+
+module _ (l : List ℕ) where
+  pub line_one : fields 32 l ≡ l ∷ [] → from_fields (fields 32 l) ≡ bad
+  unfolding from_fields
+  line_one e = rw e
+
+  module _ (f rest : List ℕ) (p : Parts 32 l f rest) where
+    pub line_first : (length f ≡ 1 → ⊥) → from_fields (fields 32 l) ≡ bad
+    line_first n = rw p.first (first_bad f (fields 32 rest) n)
+
+    module _ (o : length f ≡ 1) where
+      start : fields 32 l ≡ (get_or f 0 0 ∷ []) ∷ fields 32 rest
+      start = p.first ∙ ap (λ (x : List ℕ). x ∷ fields 32 rest) (one_byte f o)
+
+      pub line_two : fields 32 rest ≡ rest ∷ [] → from_fields (fields 32 l) ≡ two (get_or f 0 0 ∷ []) rest
+      unfolding from_fields
+      line_two e = rw (start, e)
+
+      pub line_more : (serial more : List ℕ) → Parts 32 rest serial more → from_fields (fields 32 l) ≡ from_fields ((get_or f 0 0 ∷ []) ∷ serial ∷ fields 32 more)
+      line_more serial more q = rw (start, q.first)
+
+-- what stands behind the serial: one field, or a day with the rest behind it, where that is no number if it is more than one field
+
+pub behind_one : (f s t : List ℕ) → fields 32 t ≡ t ∷ [] → from_fields (f ∷ s ∷ fields 32 t) ≡ bad
+unfolding from_fields
+behind_one f s t e = rw e
+
+no_number : (c x rest : List ℕ) → Parts 32 c x rest → is_number c ≡ false
+unfolding is_number between
+no_number c x rest p = rw (p.joined) (ends (between 1 9 (length (x ++ 32 ∷ rest))) (breaks x rest))
+  where
+    breaks : (x rest : List ℕ) → all (between 48 57) (x ++ 32 ∷ rest) ≡ false
+    breaks [] rest = refl
+    breaks (b ∷ x) rest = by_cases (between 48 57 b) (λ e. rw (e, breaks x rest)) (λ e. rw e)
+
+    ends : (a : Bool) {b : Bool} → b ≡ false → (a && b) ≡ false
+    ends true e = e
+    ends false e = refl
 
 over_four : (f s d c : List ℕ) (fs : List (List ℕ)) → 0 < length fs → from_fields (f ∷ s ∷ d ∷ c ∷ fs) ≡ bad
 unfolding from_fields
 over_four f s d c [] h = absurd (omega arith)
 over_four f s d c (x ∷ fs) h = refl
 
--- what stands behind the serial is one field, two, or more
-module _ (f s t : List ℕ) (gap : ℕ) (eg : gap ≡ piece_end 32 t 0) where
-  pub behind_one : length t ≤ gap → from_fields (f ∷ s ∷ fields 32 t) ≡ bad
-  unfolding from_fields
-  behind_one h = rw (fields_last 32 t 0 gap eg h)
+four_no_number : (f s d c : List ℕ) → is_number c ≡ false → four f s d c ≡ bad
+unfolding four
+four_no_number f s d c e =
+    by_cases (same f (70 ∷ [])) (λ a. by_cases (is_number d) (λ b. rw (a, b, e)) (λ b. rw (a, b))) (λ a. rw a)
 
-  module _ (h : gap < length t) (end : ℕ) (ee : end ≡ piece_end 32 t (gap + 1)) where
-    pub behind_two : length t ≤ end → from_fields (f ∷ s ∷ fields 32 t) ≡ four f s (take gap t) (drop (gap + 1) t)
-    unfolding from_fields
-    behind_two k = rw (fields_walk 32 t 0 gap eg h, span_front gap t, fields_last 32 t (gap + 1) end ee k)
-
-    pub behind_more : end < length t → from_fields (f ∷ s ∷ fields 32 t) ≡ bad
-    behind_more k =
-        rw (fields_walk 32 t 0 gap eg h, fields_walk 32 t (gap + 1) end ee k) (over_four f s _ _ (fields 32 (drop (end + 1) t)) (fields_some 32 (drop (end + 1) t)))
-
-first_byte : (l : List ℕ) → 0 < length l → take 1 l ≡ get_or l 0 0 ∷ []
-first_byte [] h = absurd (omega arith)
-first_byte (b ∷ l) h = refl
-
--- a line of one field, one whose first field is not one byte, one of two fields, and one of more
-module _ (l : List ℕ) (first : ℕ) (ef : first ≡ piece_end 32 l 0) where
-  pub line_one : length l ≤ first → from_fields (fields 32 l) ≡ bad
-  unfolding from_fields
-  line_one h = rw (fields_last 32 l 0 first ef h)
-
-  pub line_first : first < length l → (first ≡ 1 → ⊥) → from_fields (fields 32 l) ≡ bad
-  line_first h n =
-      rw (fields_walk 32 l 0 first ef h, span_front first l) (first_bad (take first l) _ (λ e. n (sym (length-take-le first l (omega arith)) ∙ e)))
-
-  module _ (h : first < length l) (o : first ≡ 1) (end : ℕ) (ee : end ≡ piece_end 32 l 2) where
-    start : fields 32 l ≡ (get_or l 0 0 ∷ []) ∷ fields 32 (drop 2 l)
-    start = rw (fields_walk 32 l 0 1 (sym o ∙ ef) (omega arith), first_byte l (omega arith))
-
-    pub line_two : length l ≤ end → from_fields (fields 32 l) ≡ two (get_or l 0 0 ∷ []) (drop 2 l)
-    unfolding from_fields
-    line_two k = rw (start, fields_last 32 l 2 end ee k)
-
-    pub line_more : end < length l → from_fields (fields 32 l) ≡ from_fields ((get_or l 0 0 ∷ []) ∷ span 2 end l ∷ fields 32 (drop (end + 1) l))
-    line_more k = rw (start, fields_walk 32 l 2 end ee k)
+pub behind_two : (f s t d c : List ℕ) → Parts 32 t d c → from_fields (f ∷ s ∷ fields 32 t) ≡ four f s d c
+unfolding from_fields
+behind_two f s t d c p =
+    rw p.first
+    (⊎_elim (λ (e : fields 32 c ≡ c ∷ []). rw e)
+    (λ (q : (i : ℕ) × Parts 32 c (take i c) (drop (i + 1) c)).
+    rw q.1.first (over_four f s d (take q.0 c) (fields 32 (drop (q.0 + 1) c)) (fields_some 32 (drop (q.0 + 1) c)))
+    ∙ sym (four_no_number f s d c (no_number c (take q.0 c) (drop (q.0 + 1) c) q.1)))
+    (whole_or_parts 32 c))

@@ -2,8 +2,8 @@
 -- (`going_start`) and behind a line whose answer fits (`going_on`), and both ends of the loop read the outcome off it (`going_stop`, `going_end`).
 use Prim.Native.Nat.{ℕ, ◌+◌, ◌*◌, ◌≤◌, ◌<◌}
 use mathlib.Core.Path.{◌≡◌, refl, sym, ◌∙◌}
-use mathlib.Core.Bool.{true, false}
-use mathlib.Core.List.{List}
+use mathlib.Core.Bool.{true}
+use mathlib.Core.List.{List, [], ◌∷◌}
 use native.Mathlib.Numerals.{add-one}
 use native.Mathlib.Omega.{arith}
 use lib.ListN.{length, take, drop, take-append-drop}
@@ -13,8 +13,7 @@ use Rattle.model.specs.Text.{lines_of}
 use Rattle.model.specs.Job.{run_lines}
 use Rattle.model.specs.Job as Job
 use Rattle.model.proofs.Sound.{sound_good}
-use Rattle.text.specs.Pieces.{piece_end, span}
-use Rattle.text.proofs.Cursor.{end_from, end_in, lines_walk, lines_done_lem}
+use Rattle.std.proofs.Common.{Some, None}
 use Rattle.job.specs.Counts.{tally_of}
 use Rattle.job.specs.Turns.{longest, turn_of, Turns}
 use Rattle.job.specs.Runs.{lines_on, Ends}
@@ -22,25 +21,24 @@ use Rattle.job.specs.declared.tally.Tally as Held
 use Rattle.job.specs.declared.turn.Turned.{Turned}
 use Rattle.job.proofs.OneLine.{run_at, turn_over, turn_sound, turn_long, turn_inside, turn_rest, turn_on, turn_stop}
 
--- behind some lines, with the cursor at the next: the words are sound, the output is the text and then what was there, and each line took
+-- behind some lines, with the rest of the text: the words are sound, the output is the text and then what was there, and each line took
 -- a byte of the text and gave at most the longest answer
-pub record Going (words₀ text out₀ : List ℕ) (t₀ : Job.Tally) (words out : List ℕ) (t : Job.Tally) (lines bytes at : ℕ) : Type 0 where
+pub record Going (words₀ text out₀ : List ℕ) (t₀ : Job.Tally) (words out : List ℕ) (t : Job.Tally) (lines bytes : ℕ) (rest : List ℕ) : Type 0 where
   pub good : sound words ≡ true
-  pub same : run_lines (lines_of (drop at text)) (length out) (run_at lines words out bytes t) ≡ lines_on words₀ text out₀ t₀
-  pub rest : drop bytes out ≡ drop bytes out₀
+  pub same : run_lines (lines_of rest) (length out) (run_at lines words out bytes t) ≡ lines_on words₀ text out₀ t₀
+  pub behind : drop bytes out ≡ drop bytes out₀
   pub long : length out ≡ length out₀
   pub inside : bytes ≤ length out
-  pub few : lines ≤ at
+  pub few : lines + length rest ≤ length text
   pub most : bytes ≤ longest * lines
-  pub within : at ≤ length text + 1
 
 module _ (words₀ text out₀ : List ℕ) (t₀ : Job.Tally) where
-  pub going_start : sound words₀ ≡ true → Going words₀ text out₀ t₀ words₀ out₀ t₀ 0 0 0
+  pub going_start : sound words₀ ≡ true → Going words₀ text out₀ t₀ words₀ out₀ t₀ 0 0 text
   unfolding lines_on
   going_start ok =
-      record { good = ok; same = refl; rest = refl; long = refl; inside = omega arith; few = omega arith; most = omega arith; within = omega arith }
+      record { good = ok; same = refl; behind = refl; long = refl; inside = omega arith; few = omega arith; most = omega arith }
 
-  module _ {words out : List ℕ} {t : Held.Tally} {lines bytes at : ℕ} (g : Going words₀ text out₀ t₀ words out (tally_of t) lines bytes at) where
+  module _ {words out : List ℕ} {t : Held.Tally} {lines bytes : ℕ} {rest : List ℕ} (g : Going words₀ text out₀ t₀ words out (tally_of t) lines bytes rest) where
     -- the loop's two ends
 
     ended : (n : ℕ) → lines_on words₀ text out₀ t₀ ≡ record { number = n; lines = lines; text = take bytes out; store = decode words; tally = tally_of t }
@@ -54,36 +52,36 @@ module _ (words₀ text out₀ : List ℕ) (t₀ : Job.Tally) where
           bytes_are = sym l;
           tally_is = refl;
           words_are = sym (sound_good words g.good).1;
-          out_is = rw (l, ← g.rest) (sym (take-append-drop bytes out));
+          out_is = rw (l, ← g.behind) (sym (take-append-drop bytes out));
         })
 
-    pub going_end : length text ≤ at → Ends (lines_on words₀ text out₀ t₀) out₀ (record { number = 0; lines = lines; bytes = bytes }) t words out
+    pub going_end : lines_of rest ≡ [] → Ends (lines_on words₀ text out₀ t₀) out₀ (record { number = 0; lines = lines; bytes = bytes }) t words out
     unfolding run_lines
-    going_end h = ended 0 (sym g.same ∙ rw (lines_done_lem text at h))
+    going_end h = ended 0 (sym g.same ∙ rw h)
 
     -- a turn of it
-    module _ (h : at < length text) {end : ℕ} (e : end ≡ piece_end 10 text at) {r : Turned} {words' out' : List ℕ}
-        (d : Turns (turn_of words (span at end text) out bytes (tally_of t)) bytes r words' out') where
-      pub going_stop : r.fits ≡ false → Ends (lines_on words₀ text out₀ t₀) out₀ (record { number = 10; lines = lines; bytes = bytes }) t words' out'
-      going_stop f =
-          let s = sym d.fits_is ∙ f in
-          let v = (turn_over words (span at end text) out bytes (tally_of t) s).1 in
+    module _ (x more : List ℕ) (next : lines_of rest ≡ x ∷ lines_of more) (less : length more < length rest) {words' out' : List ℕ} where
+      pub going_stop : Turns (turn_of words x out bytes (tally_of t)) bytes None words' out'
+          → Ends (lines_on words₀ text out₀ t₀) out₀ (record { number = 10; lines = lines; bytes = bytes }) t words' out'
+      going_stop d =
+          let s = sym d.fits_is in
+          let v = (turn_over words x out bytes (tally_of t) s).1 in
           rw (d.words_are, d.out_is, v)
-          (ended 10 (sym g.same ∙ rw (lines_walk text at end e h) (turn_stop words (span at end text) out bytes (tally_of t) lines _ g.inside s)))
+          (ended 10 (sym g.same ∙ rw next (turn_stop words x out bytes (tally_of t) lines _ g.inside s)))
 
-      pub going_on : r.fits ≡ true → Going words₀ text out₀ t₀ words' out' (tally_of r.tally) (lines + 1) r.end (end + 1)
-      going_on f =
-          let x = span at end text in
-          let s = sym d.fits_is ∙ f in
+      pub going_on : {r : Turned} → Turns (turn_of words x out bytes (tally_of t)) bytes (Some r) words' out'
+          → Going words₀ text out₀ t₀ words' out' (tally_of r.tally) (lines + 1) r.end more
+      going_on {r} d =
+          let s = sym d.fits_is in
+          let e = d.ended in
           let long = turn_long words x out bytes (tally_of t) s in
-          rw (d.words_are, d.out_is, d.end_is, d.tally_is)
+          rw (d.words_are, d.out_is, e.end_is, e.tally_is)
           (record {
             good = turn_sound words x out bytes (tally_of t) s g.good;
-            same = rw (long, add-one lines, ← (turn_on words x out bytes (tally_of t) lines (lines_of (drop (end + 1) text)) g.inside g.good s), ← (lines_walk text at end e h)) g.same;
-            rest = turn_rest words x out bytes (tally_of t) s out₀ g.rest;
+            same = rw (long, add-one lines, ← (turn_on words x out bytes (tally_of t) lines (lines_of more) g.inside g.good s), ← next) g.same;
+            behind = turn_rest words x out bytes (tally_of t) s out₀ g.behind;
             long = long ∙ g.long;
             inside = rw long (turn_inside words x out bytes (tally_of t) s);
-            few = omega (arith, end_from 10 text at);
-            most = omega arith;
-            within = omega (arith, end_in 10 text at (omega arith));
+            few = omega arith;
+            most = omega (arith, e.most, e.end_is);
           })

@@ -1,5 +1,4 @@
 -- Laws that the functions' proofs cite, one theme a file
-pub mod ByKind
 pub mod Padded
 pub mod Forms
 pub mod AnswerLaws
@@ -7,6 +6,7 @@ pub mod Counting
 pub mod OneLine
 pub mod Going
 pub mod Asking
+pub mod Planning
 pub mod Turning
 pub mod JobCases
 pub mod OneOutcome

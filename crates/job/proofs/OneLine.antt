@@ -3,44 +3,70 @@
 -- lines left (`turn_on`), one that does not stops it (`turn_stop`).
 use Prim.Native.Nat.{ℕ, suc, ◌+◌, ◌≤◌, ◌<◌}
 use mathlib.Core.Path.{◌≡◌, refl, sym}
-use mathlib.Core.Bool.{true, false, false≢true}
+use mathlib.Core.Bool.{true, false, cond, false≢true}
 use mathlib.Core.List.{List, ◌∷◌}
 use lib.Dec.{ltb}
 use lib.ListN.{length, take, drop}
 use lib.Seq.{sets, length-sets, length-take-le}
-use borrow.Author.Tests.{ltb-true, ltb-false, lt-ltb, le-ltb}
+use borrow.Author.Tests.{ne_eqb, ltb-true, ltb-false, lt-ltb, le-ltb}
 use Rattle.rules.proofs.Tests.{by_cases}
 use Rattle.model.specs.Model.{Store}
 use Rattle.model.specs.Layout.{encode, decode, sound}
 use Rattle.model.specs.Calls.{Answer, Step}
 use Rattle.model.specs.Job.{Line, bad, enter, show, withdraw, file, padded, enough, line_of, step_of, listed, answer_text, counted, Run, run_lines, Tally}
 use Rattle.model.specs.Runs as Runs
+use Rattle.model.specs.Runs.{Act}
+use Rattle.model.proofs.Refused.{refused_act}
 use Rattle.model.proofs.Fair.{Good}
 use Rattle.model.proofs.Sound.{good_sound, sound_good}
 use Rattle.model.proofs.Demand3.{good_act}
 use Rattle.model.proofs.Outcomes.{read_back}
 use Rattle.text.proofs.Putting.{put_front, put_rest}
-use Rattle.job.specs.Told.{Told, kind_in, serial_in, day_in, code_in}
-use Rattle.job.specs.Turns.{asked_as, asked, listed_by, turn_of}
-use Rattle.job.specs.declared.fields.Parsed.{Parsed}
+use Rattle.std.proofs.Common.{Some, None}
+use Rattle.job.specs.Told.{Told, held, request_in}
+use Rattle.job.specs.Turns.{asked, listing, turn_of}
+use Rattle.job.specs.declared.fields.Request.{Request}
 
 -- the step of a line is what is told of it, asked
-pub asked_is : (s : Store) (l : Line) (p : Parsed) → Told l p → asked s p ≡ step_of s l
-unfolding asked asked_as step_of kind_in serial_in day_in code_in
-asked_is s bad p t = rw t.kind_is
-asked_is s (enter f) p t = rw (t.kind_is, t.serial_is, t.len_is)
-asked_is s (show f) p t = rw (t.kind_is, t.serial_is, t.len_is)
-asked_is s (withdraw f) p t = rw (t.kind_is, t.serial_is, t.len_is)
-asked_is s (file f day code) p t = rw (t.kind_is, t.serial_is, t.len_is, t.day_is, t.code_is)
+told_bad : (q : Request) → Some q ≡ None → ⊥
+told_bad q e = cc
 
--- and what its answer lists goes by its kind
-pub listed_by_lem : (l : Line) (a : Answer) → listed l a ≡ listed_by (kind_in l) a.number a.faults
-unfolding listed listed_by kind_in
-listed_by_lem bad a = refl
-listed_by_lem (enter f) a = refl
-listed_by_lem (show f) a = refl
-listed_by_lem (withdraw f) a = refl
-listed_by_lem (file f day code) a = refl
+told_one : (q r : Request) → Some q ≡ Some r → q ≡ r
+told_one q r e = cc
+
+pub asked_is : (s : Store) (l : Line) (q : Request) → Told l (Some q) → asked s q ≡ step_of s l
+unfolding step_of request_in held
+asked_is s bad q t = absurd (told_bad q t)
+asked_is s (enter f) q t = rw (told_one q _ t)
+asked_is s (show f) q t = rw (told_one q _ t)
+asked_is s (withdraw f) q t = rw (told_one q _ t)
+asked_is s (file f day code) q t = rw (told_one q _ t)
+
+-- and what its answer lists, once it is done, goes by what is asked; what is refused lists nothing
+pub listed_done : (l : Line) (q : Request) (a : Answer) → Told l (Some q) → a.number ≡ 0 → listed l a ≡ cond (listing q) a.faults 0
+unfolding listed request_in
+listed_done bad q a t z = absurd (told_bad q t)
+listed_done (enter f) q a t z = rw (told_one q _ t)
+listed_done (show f) q a t z = rw (told_one q _ t, z)
+listed_done (withdraw f) q a t z = rw (told_one q _ t, z)
+listed_done (file f day code) q a t z = rw (told_one q _ t)
+
+pub listed_refused : (l : Line) (a : Answer) → (a.number ≡ 0 → ⊥) → listed l a ≡ 0
+unfolding listed
+listed_refused bad a n = refl
+listed_refused (enter f) a n = refl
+listed_refused (show f) a n = rw (ne_eqb a.number 0 n)
+listed_refused (withdraw f) a n = rw (ne_eqb a.number 0 n)
+listed_refused (file f day code) a n = refl
+
+-- what is refused leaves the store
+pub refused_stays : (s : Store) → Good s → (l : Line) → ((step_of s l).answer.number ≡ 0 → ⊥) → (step_of s l).store ≡ s
+unfolding step_of
+refused_stays s g bad n = refl
+refused_stays s g (enter f) n = (refused_act s g (Act.enter (padded f) (length f)) n).0
+refused_stays s g (show f) n = (refused_act s g (Act.show (padded f) (length f) enough) n).0
+refused_stays s g (withdraw f) n = (refused_act s g (Act.withdraw (padded f) (length f) enough) n).0
+refused_stays s g (file f day code) n = (refused_act s g (Act.file (padded f) (length f) day code) n).0
 
 -- a line leaves a good store
 

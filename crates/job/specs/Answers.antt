@@ -8,15 +8,6 @@ use Rattle.text.specs.Decimals.{marked}
 unfoldable pub pair_of : ℕ → ℕ → List ℕ
 pair_of day code = marked space day ++ marked colon code
 
--- how long a fault's text is, and the texts of `count` faults
-pub record PairLong (day code r : ℕ) : Type 0 where
-  pub is : r ≡ length (pair_of day code)
-  pub most : r ≤ 22
-
-pub record PairsLong (count : ℕ) (room : List ℕ) (r : ℕ) : Type 0 where
-  pub is : r ≡ length (pair_text count room)
-  pub most : r ≤ 22 * count
-
 -- number, comparisons, scanned and faults, one space between
 unfoldable pub numbers_of : ℕ → ℕ → ℕ → ℕ → List ℕ
 numbers_of number comparisons scanned faults = decimal number ++ (marked space comparisons ++ (marked space scanned ++ marked space faults))

@@ -1,10 +1,10 @@
--- The tally as the code holds it is the model's, field by field; and what an answered line adds, from its kind and numbers alone.
-use Rattle.std.specs.Prelude.{Bool, true, false, ◌&&◌, ℕ, ltb}
+-- The tally as the code holds it is the model's, field by field; and what an answered line adds, from what was done and its numbers alone.
+use Rattle.std.specs.Prelude.{Bool, true, false, ℕ, ltb, Option, Some, None}
 use Rattle.model.specs.Job.{plus, one}
 use Rattle.model.specs.Job as Job
 use Rattle.job.specs.declared.tally.Tally as Held
-use Rattle.job.specs.declared.fields.Kind.{Kind}
-use Rattle.job.specs.declared.fields.Kind.TheVariants.{Bad, Enter, Withdraw, File, Show}
+use Rattle.job.specs.declared.fields.Request.{Request}
+use Rattle.job.specs.declared.fields.Request.TheVariants.{Enter, Withdraw, File, Show}
 
 abbrev pub tally_of : Held.Tally → Job.Tally
 tally_of t =
@@ -17,35 +17,35 @@ tally_of t =
       comparisons = t.comparisons;
     }
 
--- the kinds that count, once a line is done
-unfoldable pub entering : Kind → Bool
-entering Bad = false
-entering Enter = true
-entering Withdraw = false
-entering File = false
-entering Show = false
+-- what counts, once it is done
+unfoldable pub entering : Option Request → Bool
+entering None = false
+entering (Some (Enter x)) = true
+entering (Some (Withdraw x)) = false
+entering (Some (File x f)) = false
+entering (Some (Show x)) = false
 
-unfoldable pub withdrawing : Kind → Bool
-withdrawing Bad = false
-withdrawing Enter = false
-withdrawing Withdraw = true
-withdrawing File = false
-withdrawing Show = false
+unfoldable pub withdrawing : Option Request → Bool
+withdrawing None = false
+withdrawing (Some (Enter x)) = false
+withdrawing (Some (Withdraw x)) = true
+withdrawing (Some (File x f)) = false
+withdrawing (Some (Show x)) = false
 
-unfoldable pub filing : Kind → Bool
-filing Bad = false
-filing Enter = false
-filing Withdraw = false
-filing File = true
-filing Show = false
+unfoldable pub filing : Option Request → Bool
+filing None = false
+filing (Some (Enter x)) = false
+filing (Some (Withdraw x)) = false
+filing (Some (File x f)) = true
+filing (Some (Show x)) = false
 
--- its kind, whether it was done, the buckets before and after it, and its comparisons
-unfoldable pub counted_by : Job.Tally → Kind → Bool → ℕ → ℕ → ℕ → Job.Tally
-counted_by t kind done before after comparisons =
+-- what was done, if the line was not refused, the buckets before and after it, and its comparisons
+unfoldable pub counted_by : Job.Tally → Option Request → ℕ → ℕ → ℕ → Job.Tally
+counted_by t done before after comparisons =
     record {
-      entries = plus t.entries (one (done && entering kind));
-      withdrawals = plus t.withdrawals (one (done && withdrawing kind));
-      filings = plus t.filings (one (done && filing kind));
+      entries = plus t.entries (one (entering done));
+      withdrawals = plus t.withdrawals (one (withdrawing done));
+      filings = plus t.filings (one (filing done));
       splits = plus t.splits (one (ltb before after));
       contractions = plus t.contractions (one (ltb after before));
       comparisons = plus t.comparisons comparisons;

@@ -1,43 +1,80 @@
 -- One line of a job on a store in words: what is asked, what is listed, and what the line leaves.
-use Rattle.std.specs.Prelude.{◌≡◌, Bool, true, false, cond, List, [], ℕ, ◌+◌, ◌*◌, ◌≤◌, ltb, eqb, length}
+use Rattle.std.specs.Prelude.{◌≡◌, Bool, true, false, cond, List, ℕ, ◌+◌, ◌*◌, ◌≤◌, ltb, length, Option, Some, None, is_some, IfSome, Result, Ok, Err}
 use Rattle.std.proofs.lemmas.List.Edits.{sets}
 use Rattle.model.specs.Model.{Store}
 use Rattle.model.specs.Shape.{faults_ever}
 use Rattle.model.specs.Layout.{encode, decode}
-use Rattle.model.specs.Numbers.{bad_line}
-use Rattle.model.specs.Calls.{Step, refused, stays, enter_step, file_step, show_step, withdraw_step}
+use Rattle.model.specs.Calls.{Step, enter_step, file_step, show_step, withdraw_step}
 use Rattle.model.specs.Job.{enough, line_of, step_of, pair_text, answer_text, counted}
 use Rattle.model.specs.Job as Job
+use Rattle.store.specs.declared.answer.Answer.{Answer}
+use Rattle.store.specs.declared.plans.Plan.{Plan}
+use Rattle.store.specs.Plans.{Plans, Planned, Refuses}
+use Rattle.job.specs.Told.{Told}
 use Rattle.job.specs.Counts.{tally_of}
-use Rattle.job.specs.declared.fields.Kind.{Kind}
-use Rattle.job.specs.declared.fields.Kind.TheVariants.{Bad, Enter, Withdraw, File, Show}
-use Rattle.job.specs.declared.fields.Parsed.{Parsed}
+use Rattle.job.specs.declared.fields.Serial.{Serial}
+use Rattle.job.specs.declared.fields.Request.{Request}
+use Rattle.job.specs.declared.fields.Request.TheVariants.{Enter, Withdraw, File, Show}
+use Rattle.job.specs.declared.turn.Ahead.{Ahead}
 use Rattle.job.specs.declared.turn.Turned.{Turned}
 
--- what is told of a line, asked of a store: by its kind
-unfoldable pub asked_as : Kind → Store → Parsed → Step
-asked_as Bad s p = stays (refused bad_line) s []
-asked_as Enter s p = enter_step s p.serial p.len
-asked_as Withdraw s p = withdraw_step s p.serial p.len enough
-asked_as File s p = file_step s p.serial p.len p.day p.code
-asked_as Show s p = show_step s p.serial p.len enough
+-- what is asked of a store, and its serial
+abbrev pub asked : Store → Request → Step
+asked s (Enter x) = enter_step s x.bytes x.len
+asked s (Withdraw x) = withdraw_step s x.bytes x.len enough
+asked s (File x f) = file_step s x.bytes x.len f.day f.code
+asked s (Show x) = show_step s x.bytes x.len enough
 
-unfoldable pub asked : Store → Parsed → Step
-asked s p = asked_as p.kind s p
+abbrev pub serial_in : Request → Serial
+serial_in (Enter x) = x
+serial_in (Withdraw x) = x
+serial_in (File x f) = x
+serial_in (Show x) = x
 
--- how many pairs an answer of this kind, number and count lists: those of a done show or withdraw
-unfoldable pub listed_by : Kind → ℕ → ℕ → ℕ
-listed_by Bad number faults = 0
-listed_by Enter number faults = 0
-listed_by Withdraw number faults = cond (eqb number 0) faults 0
-listed_by File number faults = 0
-listed_by Show number faults = cond (eqb number 0) faults 0
+-- a plan of what is asked, on these words
+abbrev pub PlansRequest : List ℕ → Request → Result Plan Answer → Type 0
+PlansRequest w q plan = Plans (asked (decode w) q).answer w (serial_in q).bytes (serial_in q).len plan
 
--- the room holds the pairs that the step lists
-pub record Lists (kind : Kind) (r : Step) (count : ℕ) (room : List ℕ) : Type 0 where
-  pub count_is : count ≡ listed_by kind r.answer.number r.answer.faults
+-- what goes ahead, on these words
+abbrev pub GoesAhead : List ℕ → Ahead → Type 0
+GoesAhead w a = Planned (asked (decode w) a.request).answer w (serial_in a.request).bytes (serial_in a.request).len a.plan
+
+-- the line x on these words goes ahead with what it tells, or is refused
+abbrev pub PlansLine : List ℕ → List ℕ → Result Ahead Answer → Type 0
+PlansLine w x (Ok a) = Told (line_of x) (Some a.request) × GoesAhead w a
+PlansLine w x (Err answer) = Refuses (step_of (decode w) (line_of x)).answer answer
+
+-- the answer of a line, and what was asked if it goes ahead
+abbrev pub answer_in : Result Ahead Answer → Answer
+answer_in (Ok a) = a.plan.answer
+answer_in (Err answer) = answer
+
+abbrev pub done_in : Result Ahead Answer → Option Request
+done_in (Ok a) = Some a.request
+done_in (Err answer) = None
+
+-- a show and a withdraw list pairs
+abbrev pub listing : Request → Bool
+listing (Enter x) = false
+listing (Withdraw x) = true
+listing (File x f) = false
+listing (Show x) = true
+
+-- the room holds the pairs that the answer lists, once the request is done
+pub record Lists (s : Store) (q : Request) (count : ℕ) (room : List ℕ) : Type 0 where
+  pub count_is : count ≡ cond (listing q) (asked s q).answer.faults 0
   pub few : count ≤ faults_ever
-  pub text_is : pair_text count room ≡ pair_text count r.room
+  pub text_is : pair_text count room ≡ pair_text count (asked s q).room
+
+-- and no pair of what is refused
+abbrev pub ListsPlan : Store → Result Ahead Answer → ℕ → List ℕ → Type 0
+ListsPlan s (Ok a) count room = Lists s a.request count room
+ListsPlan s (Err answer) count room = count ≡ 0
+
+-- the words left follow what goes ahead; what is refused leaves them
+abbrev pub MakesPlan : List ℕ → Result Ahead Answer → List ℕ → Type 0
+MakesPlan w (Ok a) words = words ≡ encode (asked (decode w) a.request).store
+MakesPlan w (Err answer) words = words ≡ w
 
 -- what a line leaves: whether its answer fitted, the words, the output and where its text ends, the tally
 pub record Turn : Type 0 where
@@ -62,11 +99,15 @@ turn_of w x out at t =
 abbrev pub longest : ℕ
 longest = 44 + 22 * faults_ever
 
--- a turn of the program, held to it
-pub record Turns (t : Turn) (at : ℕ) (r : Turned) (words out : List ℕ) : Type 0 where
-  pub fits_is : r.fits ≡ t.fits
+-- where the text of a turn of the program ends, and its tally
+pub record Ended (t : Turn) (at : ℕ) (r : Turned) : Type 0 where
   pub end_is : r.end ≡ t.end
   pub tally_is : tally_of r.tally ≡ t.tally
+  pub most : r.end ≤ at + longest
+
+-- a turn of the program, held to it: it gives nothing where the answer does not fit
+pub record Turns (t : Turn) (at : ℕ) (r : Option Turned) (words out : List ℕ) : Type 0 where
+  pub fits_is : is_some r ≡ t.fits
+  pub ended : IfSome r (Ended t at)
   pub words_are : words ≡ t.words
   pub out_is : out ≡ t.out
-  pub most : r.end ≤ at + longest

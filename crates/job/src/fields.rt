@@ -1,148 +1,101 @@
 // A line taken apart into its fields.
-ghost use Rattle.std.specs.Prelude.{◌≡◌, min, [], ◌∷◌};
+ghost use Rattle.std.specs.Prelude.{◌≡◌, [], ◌∷◌};
 ghost use Rattle.model.specs.Text.{space, fields};
-ghost use Rattle.model.specs.Job.{bad, two, four, from_fields, padded, line_of};
-ghost use Rattle.job.specs.Told.{Holds, Told};
+ghost use Rattle.model.specs.Job.{two, from_fields, padded, line_of};
+ghost use Rattle.job.specs.Told.{held, Told};
 
 use super::letters;
 use rules::SERIAL;
-use text::numbers::{is_number, number};
-use text::pieces::field_end;
+use text::letters::SPACE;
+use text::numbers;
+use text::pieces::split_once;
 
-// What a line asks for: bad is one that is not well formed.
-#[derive(Clone, Copy)]
-pub enum Kind {
-    Bad,
-    Enter,
-    Withdraw,
-    File,
-    Show,
+// A serial as it travels: sixteen bytes, the unused ones zero, and the length of its field.
+#[derive(Clone, Copy, Debug, PartialEq, Eq)]
+pub struct Serial {
+    pub bytes: [u8; SERIAL],
+    pub len: usize,
 }
 
-// What a line tells: its kind, its serial field as sixteen bytes and its length, and the numbers of a filing.
-// What its kind has not is 0.
-#[derive(Clone, Copy)]
-pub struct Parsed {
-    pub kind: Kind,
-    pub serial: [u8; 16],
-    pub len: usize,
+// A fault to be filed.
+#[derive(Clone, Copy, Debug, PartialEq, Eq)]
+pub struct Fault {
     pub day: u32,
     pub code: u32,
 }
 
+// What a line asks for.
+#[derive(Clone, Copy, Debug, PartialEq, Eq)]
+pub enum Request {
+    Enter(Serial),
+    Withdraw(Serial),
+    File(Serial, Fault),
+    Show(Serial),
+}
+
 // The longest line without its LF.
 const LONGEST_LINE: usize = 64;
-
-fn lesser(a: usize, b: usize) -> usize
-    ensures { result ≡ min a b }
-{
-    if a < b { a } else { b }
-}
 
 // The field as a serial travels: sixteen bytes, the unused ones zero. Of a longer field the first sixteen.
 pub fn sixteen(field: &[u8]) -> [u8; 16]
     ensures { result ≡ padded field.now }
 {
     let mut bytes = [0u8; 16];
-    let end = lesser(field.len(), SERIAL);
-    let mut i = 0;
-    while i < end {
-        bytes[i] = field[i];
-        i += 1;
-    }
+    let end = field.len().min(SERIAL);
+    bytes[..end].copy_from_slice(&field[..end]);
     bytes
 }
 
-// A line that is not well formed.
-fn bad_line() -> Parsed
-    ensures { Told bad result }
-{
-    let none = [0u8; 16];
-    Parsed {
-        kind: Kind::Bad,
-        serial: none,
-        len: 0,
-        day: 0,
-        code: 0,
-    }
-}
+impl<'a> From<&'a [u8]> for Serial {
+    ghost from_gives = { λ field serial. serial ≡ held field.now };
 
-// A line of this kind, with its serial field and the numbers of a filing.
-fn line_of(kind: Kind, serial: &[u8], day: u32, code: u32) -> Parsed
-    ensures { Holds kind serial.now day code result }
-{
-    let bytes = sixteen(serial);
-    Parsed {
-        kind,
-        serial: bytes,
-        len: serial.len(),
-        day,
-        code,
+    fn from(field: &'a [u8]) -> Serial {
+        Serial {
+            bytes: sixteen(field),
+            len: field.len(),
+        }
     }
 }
 
 // A line of two fields: E, S or W and a serial.
-fn serial_line(op: u8, serial: &[u8]) -> Parsed
+fn serial_line(op: u8, serial: &[u8]) -> Option<Request>
     ensures { Told (two (op ∷ []) serial.now) result }
 {
+    let serial = Serial::from(serial);
     match op {
-        letters::LETTER_E => line_of(Kind::Enter, serial, 0, 0),
-        letters::LETTER_W => line_of(Kind::Withdraw, serial, 0, 0),
-        letters::LETTER_S => line_of(Kind::Show, serial, 0, 0),
-        _ => bad_line(),
+        letters::LETTER_E => Some(Request::Enter(serial)),
+        letters::LETTER_W => Some(Request::Withdraw(serial)),
+        letters::LETTER_S => Some(Request::Show(serial)),
+        _ => None,
     }
 }
 
-// A line of four fields: F, a serial, a day and a code.
-fn fault_line(op: u8, serial: &[u8], day: &[u8], code: &[u8]) -> Parsed
-    ensures { Told (four (op ∷ []) serial.now day.now code.now) result }
-{
-    if op != letters::LETTER_F {
-        return bad_line();
-    }
-    if !is_number(day) {
-        return bad_line();
-    }
-    if !is_number(code) {
-        return bad_line();
-    }
-    line_of(Kind::File, serial, number(day), number(code))
-}
-
-// A line whose serial is not its last field, with what stands behind the serial: two fields more, or it is bad.
-fn longer_line(op: u8, serial: &[u8], rest: &[u8]) -> Parsed
+// A longer line, with what stands behind its serial: F, a serial, a day and a code.
+fn fault_line(op: u8, serial: &[u8], rest: &[u8]) -> Option<Request>
     ensures { Told (from_fields ((op ∷ []) ∷ serial.now ∷ fields space rest.now)) result }
 {
-    let gap = field_end(rest, 0);
-    if rest.len() <= gap {
-        return bad_line();
+    let (day, code) = split_once(rest, SPACE)?;
+    if op != letters::LETTER_F {
+        return None;
     }
-    let next = gap + 1;
-    let end = field_end(rest, next);
-    if end < rest.len() {
-        return bad_line();
-    }
-    fault_line(op, serial, &rest[..gap], &rest[next..])
+    let day = numbers::parse(day)?;
+    let code = numbers::parse(code)?;
+    Some(Request::File(Serial::from(serial), Fault { day, code }))
 }
 
-// What a line without its LF tells.
-pub fn parse(line: &[u8]) -> Parsed
+// What a line without its LF asks for; none if it is not well formed.
+pub fn parse(line: &[u8]) -> Option<Request>
     ensures { Told (line_of line.now) result }
 {
-    if LONGEST_LINE < line.len() {
-        return bad_line();
+    if line.len() > LONGEST_LINE {
+        return None;
     }
-    let first = field_end(line, 0);
-    if line.len() <= first {
-        return bad_line();
+    let (op, rest) = split_once(line, SPACE)?;
+    if op.len() != 1 {
+        return None;
     }
-    if first != 1 {
-        return bad_line();
-    }
-    let end = field_end(line, 2);
-    if line.len() <= end {
-        return serial_line(line[0], &line[2..]);
-    }
-    let next = end + 1;
-    longer_line(line[0], &line[2..end], &line[next..])
+    let Some((serial, rest)) = split_once(rest, SPACE) else {
+        return serial_line(op[0], rest);
+    };
+    fault_line(op[0], serial, rest)
 }

@@ -5,6 +5,7 @@ ghost use Rattle.std.specs.Prelude.{◌≡◌, true, ◌*◌, ◌≤◌, length}
 ghost use Rattle.model.specs.Shape.{faults_ever};
 ghost use Rattle.model.specs.Layout.{sound};
 ghost use Rattle.model.specs.Job.{most_text};
+ghost use Rattle.store.specs.Numbers.{number_of};
 ghost use Rattle.job.specs.Runs.{lines_on, Ends, refused_ran, Did};
 ghost use Rattle.job.specs.Counts.{tally_of};
 
@@ -14,9 +15,9 @@ mod letters; // letters.rt: the bytes of a line, by name
 pub mod tally; // tally.rt: what a job counts
 mod turn; // turn.rt: one line, from its bytes to its answer
 
-use store::numbers;
+use store::Refusal;
 pub use tally::Tally;
-use text::pieces;
+use text::pieces::Lines;
 
 // How a job ended: its number, 0 if all lines were answered, the lines done and the bytes written.
 #[repr(C)]
@@ -45,25 +46,20 @@ fn run_lines(words: &mut [u32], room: &mut [u32], text: &[u8], out: &mut [u8], t
     let mut sum = tally;
     let mut lines: u32 = 0;
     let mut bytes: usize = 0;
-    let mut at: usize = 0;
-    while at < text.len() {
-        let end = pieces::line_end(text, at);
-        let t = turn::turn(words, room, &text[at..end], out, bytes, sum);
-        if !t.fits {
+    for line in Lines::new(text) {
+        let Some(t) = turn::turn(words, room, line, out, bytes, sum) else {
             return Ran {
                 done: Done {
-                    number: numbers::SHORT_ROOM,
+                    number: Refusal::ShortRoom.into(),
                     lines,
                     bytes: bytes as u32,
                 },
                 tally: sum,
             };
-        }
-        let after = t.tally;
-        sum = after;
+        };
+        sum = t.tally;
         bytes = t.end;
         lines += 1;
-        at = end + 1;
     }
     Ran {
         done: Done {
@@ -85,12 +81,12 @@ fn run_with_room(words: &mut [u32], text: &[u8], out: &mut [u8], tally: Tally) -
 }
 
 // A job that is refused: no line is done, no byte written, and the tally stays.
-fn refuse(number: u32, tally: Tally) -> Ran
-    ensures { result ≡ refused_ran number tally }
+fn refuse(refusal: Refusal, tally: Tally) -> Ran
+    ensures { result ≡ refused_ran (number_of refusal) tally }
 {
     Ran {
         done: Done {
-            number,
+            number: refusal.into(),
             lines: 0,
             bytes: 0,
         },
@@ -104,14 +100,14 @@ pub fn work(words: &mut [u32], scratch: &mut [u8], text: &[u8], out: &mut [u8], 
 {
     let n = store::need(words);
     if scratch.len() < n {
-        return refuse(numbers::SHORT_SCRATCH, tally);
+        return refuse(Refusal::ShortScratch, tally);
     }
     if MOST_TEXT < text.len() {
         store::clear(scratch, n);
-        return refuse(numbers::LONG_TEXT, tally);
+        return refuse(Refusal::LongText, tally);
     }
     if !store::check(words, scratch) {
-        return refuse(numbers::NOT_SOUND, tally);
+        return refuse(Refusal::NotSound, tally);
     }
     run_with_room(words, text, out, tally)
 }

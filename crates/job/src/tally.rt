@@ -1,10 +1,10 @@
 // The tally: accepted entries, withdrawals and filings, splits, contractions and comparisons, each held at
 // the top instead of passing it. It goes in by value and comes back.
-ghost use Rattle.std.specs.Prelude.{◌≡◌, ◌&&◌};
+ghost use Rattle.std.specs.Prelude.{◌≡◌};
 ghost use Rattle.model.specs.Job.{plus, one};
 ghost use Rattle.job.specs.Counts.{tally_of, entering, withdrawing, filing, counted_by};
 
-use super::fields::Kind;
+use super::fields::Request;
 
 #[repr(C)]
 #[derive(Clone, Copy)]
@@ -17,65 +17,40 @@ pub struct Tally {
     pub comparisons: u64,
 }
 
-const TOP: u64 = 18446744073709551615;
-
 // The sum, or the top.
 pub fn plus(a: u64, b: u64) -> u64
     ensures { result ≡ plus a b }
 {
-    if TOP - a < b { TOP } else { a + b }
+    a.saturating_add(b)
 }
 
-fn one(yes: bool) -> u64
-    ensures { result ≡ one yes }
+// How many entries, withdrawals and filings a line is: one of one kind, if it is done.
+#[tactic(auto, unfolding(crate::specs::Counts::entering, crate::specs::Counts::withdrawing, crate::specs::Counts::filing, model::specs::Job::one))]
+fn kinds(done: Option<Request>) -> (u64, u64, u64)
+    ensures entries { result.0 ≡ one (entering done) }
+    ensures withdrawals { result.1 ≡ one (withdrawing done) }
+    ensures filings { result.2 ≡ one (filing done) }
 {
-    if yes { 1 } else { 0 }
-}
-
-// 1 for a line that is done and of the kind that counts.
-fn one_of(done: bool, counts: bool) -> u64
-    ensures { result ≡ one (done && counts) }
-{
-    if done { one(counts) } else { 0 }
-}
-
-fn entering(kind: Kind) -> bool
-    ensures { result ≡ entering kind }
-{
-    match kind {
-        Kind::Enter => true,
-        _ => false,
+    match done {
+        Some(Request::Enter(_)) => (1, 0, 0),
+        Some(Request::Withdraw(_)) => (0, 1, 0),
+        Some(Request::File(..)) => (0, 0, 1),
+        Some(Request::Show(_)) => (0, 0, 0),
+        None => (0, 0, 0),
     }
 }
 
-fn withdrawing(kind: Kind) -> bool
-    ensures { result ≡ withdrawing kind }
+// The tally after an answered line: what was done, if it was not refused, the buckets before and after it, its comparisons.
+pub fn count(t: Tally, done: Option<Request>, before: u32, after: u32, comparisons: u32) -> Tally
+    ensures { tally_of result ≡ counted_by (tally_of t) done before after comparisons }
 {
-    match kind {
-        Kind::Withdraw => true,
-        _ => false,
-    }
-}
-
-fn filing(kind: Kind) -> bool
-    ensures { result ≡ filing kind }
-{
-    match kind {
-        Kind::File => true,
-        _ => false,
-    }
-}
-
-// The tally after an answered line: its kind, whether it was done, the buckets before and after it, its comparisons.
-pub fn count(t: Tally, kind: Kind, done: bool, before: u32, after: u32, comparisons: u32) -> Tally
-    ensures { tally_of result ≡ counted_by (tally_of t) kind done before after comparisons }
-{
+    let (entries, withdrawals, filings) = kinds(done);
     Tally {
-        entries: plus(t.entries, one_of(done, entering(kind))),
-        withdrawals: plus(t.withdrawals, one_of(done, withdrawing(kind))),
-        filings: plus(t.filings, one_of(done, filing(kind))),
-        splits: plus(t.splits, one(before < after)),
-        contractions: plus(t.contractions, one(after < before)),
-        comparisons: plus(t.comparisons, comparisons as u64),
+        entries: plus(t.entries, entries),
+        withdrawals: plus(t.withdrawals, withdrawals),
+        filings: plus(t.filings, filings),
+        splits: plus(t.splits, u64::from(before < after)),
+        contractions: plus(t.contractions, u64::from(after < before)),
+        comparisons: plus(t.comparisons, u64::from(comparisons)),
     }
 }

@@ -53,7 +53,7 @@ fn made(
 ) -> Wrote {
     fill(scratch, from, step);
     fill(out, from, step);
-    report::report(words, lengths, scratch, out)
+    report::report(words, lengths, scratch, out).into()
 }
 
 // What it gave and left, and its text.

@@ -17,6 +17,7 @@ use Rattle.model.specs.Plain.{slip}
 use Rattle.model.proofs.Chains.{follow_none}
 use Rattle.reads.specs.Chains.{Ends, faults_from}
 use Rattle.reads.proofs.EndsLaws.{ends_on}
+use Rattle.report.specs.declared.rows.Row.{Row}
 use Rattle.report.specs.Rows.{slip_of, slips_from, noted, note_history, codes_fit, Takes}
 use Rattle.report.proofs.RowLaws.{takes_noted, takes_less}
 
@@ -27,18 +28,18 @@ unfolding slips_from faults_from read_fault
 slips_on sh w e some = ap (λ (l : List ℕ). map (λ f. slip_of f.day f.code) (map (read_fault sh w) l)) (ends_on e some).0
 
 -- at cell i, with these rows
-pub record Noting (sh : Shape) (w : List ℕ) (n : ℕ) (rows₀ : List ℕ) (first : ℕ) (rows : List ℕ) (i : ℕ) : Type 0 where
+pub record Noting (sh : Shape) (w : List ℕ) (n : ℕ) (rows₀ : List Row) (first : ℕ) (rows : List Row) (i : ℕ) : Type 0 where
   pub ends : Ends sh.fault_limit (next_fault sh w) i
   pub codes : codes_fit (slips_from sh w i) ≡ true
   pub takes : Takes rows (length (slips_from sh w i))
   pub same : note_history rows n (slips_from sh w i) ≡ note_history rows₀ n (slips_from sh w first)
 
-pub noting_end : {sh : Shape} {w rows₀ rows : List ℕ} {n first i : ℕ} → Noting sh w n rows₀ first rows i → i ≡ 0 → rows ≡ note_history rows₀ n (slips_from sh w first)
+pub noting_end : {sh : Shape} {w : List ℕ} {rows₀ rows : List Row} {n first i : ℕ} → Noting sh w n rows₀ first rows i → i ≡ 0 → rows ≡ note_history rows₀ n (slips_from sh w first)
 unfolding slips_from faults_from note_history
 noting_end {sh} {w} {rows₀} {rows} {n} {first} {i} a z =
     sym (ap (λ (l : List ℕ). note_history rows n (map slip (map (read_fault sh w) l))) (follow_none sh.fault_limit (next_fault sh w) i z)) ∙ a.same
 
-module _ {sh : Shape} {w rows₀ rows : List ℕ} {n first i : ℕ} (a : Noting sh w n rows₀ first rows i) (some : i ≡ 0 → ⊥) where
+module _ {sh : Shape} {w : List ℕ} {rows₀ rows : List Row} {n first i : ℕ} (a : Noting sh w n rows₀ first rows i) (some : i ≡ 0 → ⊥) where
   -- the code in cell i has a row, and that row can take it
   left_codes : (leb (fault_word sh w i to_code) most_code ≡ true) × (codes_fit (slips_from sh w (next_fault sh w i)) ≡ true)
   unfolding codes_fit
@@ -53,7 +54,7 @@ module _ {sh : Shape} {w rows₀ rows : List ℕ} {n first i : ℕ} (a : Noting 
   pub noting_takes : Takes rows 1
   noting_takes = takes_less rows (suc (length (slips_from sh w (next_fault sh w i)))) 1 left_takes (omega arith)
 
-  pub noting_next : {day code next : ℕ} {rows' : List ℕ} → day ≡ fault_word sh w i to_day → code ≡ fault_word sh w i to_code → next ≡ next_fault sh w i
+  pub noting_next : {day code next : ℕ} {rows' : List Row} → day ≡ fault_word sh w i to_day → code ≡ fault_word sh w i to_code → next ≡ next_fault sh w i
       → rows' ≡ noted rows n (slip_of day code) → Noting sh w n rows₀ first rows' next
   unfolding note_history
   noting_next {day} {code} {next} {rows'} ed ec en er =

@@ -10,7 +10,7 @@ use native.Mathlib.Omega.{arith}
 use lib.Dec.{ltb, eqb}
 use lib.ListN.{length, length-append, length-map}
 use lib.Seq.{append_snoc}
-use borrow.Author.Tests.{eqb-true, eqb-false, eq-eqb, ne_eqb, ltb-true, ltb-false, lt-ltb, le-ltb}
+use borrow.Author.Tests.{eqb-true, eqb-false, eq-eqb, ne_eqb, lt-ltb, le-ltb}
 use Rattle.rules.proofs.Tests.{by_cases}
 use Rattle.model.specs.Lists.{keep, join, from, total}
 use Rattle.model.specs.Serial.{most_code}
@@ -18,7 +18,8 @@ use Rattle.model.specs.Plain.{Slip}
 use Rattle.model.specs.Report.{of_code, entries_of, cards_with, lowest, highest, days_of, earliest, latest, codes_in, code_line, report_text}
 use Rattle.model.proofs.Lists.{keep_append, map_append}
 use Rattle.model.proofs.Sums.{bit}
-use Rattle.report.specs.Rows.{Row, rows_long, blank, row_of, cards_after, earliest_after, latest_after, note_row, noted, note_history, note_all, codes_fit}
+use Rattle.report.specs.declared.rows.Row.{Row}
+use Rattle.report.specs.Rows.{rows_long, blank, row_of, cards_after, earliest_after, latest_after, note_row, noted, note_history, note_all, codes_fit}
 use Rattle.report.specs.Texts.{row_line, row_lines, text_of}
 use Rattle.report.specs.declared.rows.Totals.{Totals}
 use Rattle.report.proofs.RowLaws.{noted_long, noted_here, noted_other, history_long, codes_first, codes_parts, row_in, blank_long, blank_row}
@@ -33,14 +34,14 @@ abbrev note_days : ℕ → Row → List ℕ → Row
 note_days n r [] = r
 note_days n r (d ∷ ds) = note_days n (note_row n d r) ds
 
-noted_row : (rows : List ℕ) (n : ℕ) (f : Slip) (k : ℕ) → length rows ≡ rows_long → f.code ≤ most_code
+noted_row : (rows : List Row) (n : ℕ) (f : Slip) (k : ℕ) → length rows ≡ rows_long → f.code ≤ most_code
     → row_of (noted rows n f) k ≡ cond (eqb f.code k) (note_row n f.day (row_of rows k)) (row_of rows k)
 noted_row rows n f k l h =
     by_cases (eqb f.code k)
     (λ e. rw (e, ← (eqb-true f.code k e)) (noted_here rows n f (row_in rows f.code l h)))
     (λ e. rw e (noted_other rows n f k (λ d. eqb-false f.code k e (sym d))))
 
-history_row : (k : ℕ) (rows : List ℕ) (n : ℕ) (fs : List Slip) → length rows ≡ rows_long → codes_fit fs ≡ true
+history_row : (k : ℕ) (rows : List Row) (n : ℕ) (fs : List Slip) → length rows ≡ rows_long → codes_fit fs ≡ true
     → row_of (note_history rows n fs) k ≡ note_days n (row_of rows k) (days_in k fs)
 unfolding note_history
 history_row k rows n [] l c = refl
@@ -60,10 +61,7 @@ lowest_snoc : (ds : List ℕ) (d : ℕ) → earliest_after (length ds) (lowest d
 unfolding earliest_after lowest
 lowest_snoc [] d = refl
 lowest_snoc (e ∷ ds) d =
-    rw (ne_eqb (suc (length ds)) 0 (omega arith))
-    (by_cases (ltb d (lowest (e ∷ ds)))
-    (λ t. rw t (omega (arith, ltb-true d (lowest (e ∷ ds)) t, lowest_more e ds d)))
-    (λ t. rw t (omega (arith, ltb-false d (lowest (e ∷ ds)) t, lowest_more e ds d))))
+    rw (ne_eqb (suc (length ds)) 0 (omega arith)) (sym (lowest_more e ds d))
 
 highest_more : (ds : List ℕ) (d : ℕ) → highest (ds ++ (d ∷ [])) ≡ max (highest ds) d
 unfolding highest
@@ -72,10 +70,7 @@ highest_more (e ∷ ds) d = omega (arith, highest_more ds d)
 
 highest_snoc : (ds : List ℕ) (d : ℕ) → latest_after (highest ds) d ≡ highest (ds ++ (d ∷ []))
 unfolding latest_after
-highest_snoc ds d =
-    by_cases (ltb (highest ds) d)
-    (λ t. rw t (omega (arith, ltb-true (highest ds) d t, highest_more ds d)))
-    (λ t. rw t (omega (arith, ltb-false (highest ds) d t, highest_more ds d)))
+highest_snoc ds d = sym (highest_more ds d)
 
 -- a row speaks of faults on these days, on so many cards, none behind card n
 record Speaks (n : ℕ) (ds : List ℕ) (c : ℕ) (r : Row) : Type 0 where
@@ -139,7 +134,7 @@ cards_more k h hs =
     rw (length-map (of_code k h) (λ (f : Slip). f.day))
     (by_cases (ltb 0 (length (of_code k h))) (λ e. rw e (omega arith)) (λ e. rw e (omega arith)))
 
-speaks_all : (k : ℕ) (rows : List ℕ) (n : ℕ) (hs : List (List Slip)) (ds : List ℕ) (c : ℕ) → length rows ≡ rows_long → codes_fit (join hs) ≡ true → Speaks n ds c (row_of rows k)
+speaks_all : (k : ℕ) (rows : List Row) (n : ℕ) (hs : List (List Slip)) (ds : List ℕ) (c : ℕ) → length rows ≡ rows_long → codes_fit (join hs) ≡ true → Speaks n ds c (row_of rows k)
     → Speaks (n + length hs) (ds ++ days_of k hs) (c + cards_with k hs) (row_of (note_all rows n hs) k)
 unfolding note_all
 speaks_all k rows n [] ds c l ok t = speaks_same (omega arith) (sym (append-nil ds)) (omega (arith, cards_none k)) t
@@ -197,7 +192,7 @@ rows_text hs ok =
     lines_kept (λ k. entries_of k hs) (λ k. row_line k (row_of (note_all blank 0 hs) k)) (code_line hs) 1 most_code
     (λ k. row_line_lem k hs (row_of (note_all blank 0 hs) k) (rows_say hs ok k))
 
-pub text_is_report : (hs : List (List Slip)) (rows : List ℕ) (t : Totals) → codes_fit (join hs) ≡ true → rows ≡ note_all blank 0 hs → t.cards ≡ length hs → t.entries ≡ total length hs
+pub text_is_report : (hs : List (List Slip)) (rows : List Row) (t : Totals) → codes_fit (join hs) ≡ true → rows ≡ note_all blank 0 hs → t.cards ≡ length hs → t.entries ≡ total length hs
     → text_of rows t ≡ report_text hs
 unfolding text_of report_text
 text_is_report hs rows t ok r c e = rw (r, c, e, rows_text hs ok)

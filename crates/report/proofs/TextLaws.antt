@@ -1,63 +1,53 @@
--- The text of a report, part by part. A line is as long as its numbers with a space or LF behind each (`line_last`, `line_more`); the line of a code is
--- that of its row's words, and none where the row has no entry (`row_some`, `row_none`); the rate stands where there are cards (`rate_some`, `rate_none`).
--- `rows_turn` is a turn of a loop over the codes. A text in an output is the report that the model says: refused where it does not fit, else at the
--- front (`report_refused`, `report_written`). Assumes nothing.
-use Prim.Native.Nat.{ℕ, suc, ◌+◌, ◌-◌, ◌*◌, ◌/◌, ◌%◌, ◌≤◌, ◌<◌}
+-- The text of a report, part by part. A line is its first number and the others with a space before each (`line_parts`); the line of a code is that of
+-- its row, and none where the row has no entry (`row_some`, `row_none`); the rate stands where there are cards (`rate_some`, `rate_none`). `rows_turn`
+-- is a turn of a loop over the codes. All of it is less than 32 bits count (`text_few`). A text at the front of an output is the
+-- report that the model says (`report_written`). Assumes nothing.
+use lib.Dec.{ltb, eqb}
+use Prim.Native.Nat.{ℕ, zero, suc, ◌^◌, ◌+◌, ◌-◌, ◌*◌, ◌/◌, ◌%◌, ◌≤◌, ◌<◌}
 use mathlib.Core.Path.{◌≡◌, refl, sym, ap, ◌∙◌}
-use mathlib.Core.List.{List, [], ◌∷◌, ◌++◌}
-use native.Mathlib.Nat.{add-zero}
+use mathlib.Core.List.{List, [], ◌∷◌, ◌++◌, append_assoc}
 use native.Mathlib.Omega.{arith}
-use lib.ListN.{length, drop, get_or, length-append}
+use lib.ListN.{length, drop, length-append}
 use lib.Seq.{sets-eq}
-use borrow.Author.Tests.{eq-eqb, ne_eqb, lt-ltb, le-ltb}
+use borrow.Author.Tests.{eq-eqb, ne_eqb, le-ltb}
 use Rattle.model.specs.Serial.{most_code}
-use Rattle.model.specs.Numbers.{short_room}
-use Rattle.model.specs.Text.{lf, space, decimal}
+use Rattle.model.specs.Text.{lf, space, digits, decimal}
 use Rattle.model.specs.Report.{numbers_line, rate_line, total_lines}
-use Rattle.text.specs.Decimals.{Puts}
-use Rattle.report.specs.Rows.{row_at, row_of}
-use Rattle.report.specs.Reports.{refused_wrote}
-use Rattle.report.specs.Texts.{row_line, row_lines, text_of, Long, PutsReport}
+use Rattle.text.specs.Decimals.{Puts, marked}
+use Rattle.rules.proofs.Tests.{by_cases}
+use Rattle.report.specs.declared.rows.Row.{Row}
+use Rattle.report.specs.Rows.{row_of}
+use Rattle.store.specs.Leaves.{wrote_of}
+use Rattle.std.proofs.Common.{Ok}
+use Rattle.report.specs.Texts.{row_line, row_lines, text_of, PutsReport}
 use Rattle.report.specs.declared.rows.Totals.{Totals}
 
--- how long a line is
+-- a line is its first number, the others with a space before each, and LF
 
-pub line_last : (a : ℕ) → length (numbers_line (a ∷ [])) ≡ length (decimal a) + 1
-unfolding numbers_line
-line_last a = length-append (decimal a) (lf ∷ [])
+unfoldable pub marks : List ℕ → List ℕ
+marks [] = []
+marks (n ∷ ns) = marked space n ++ marks ns
 
-pub line_more : (a b : ℕ) (ns : List ℕ) → length (numbers_line (a ∷ b ∷ ns)) ≡ length (decimal a) + 1 + length (numbers_line (b ∷ ns))
-unfolding numbers_line
-line_more a b ns = omega (arith, length-append (decimal a) (space ∷ numbers_line (b ∷ ns)))
+pub line_parts : (a : ℕ) (ns : List ℕ) → numbers_line (a ∷ ns) ≡ decimal a ++ (marks ns ++ (lf ∷ []))
+unfolding numbers_line marks marked
+line_parts a [] = refl
+line_parts a (b ∷ ns) =
+    ap (λ (l : List ℕ). decimal a ++ (space ∷ l)) (line_parts b ns)
+    ∙ ap (λ (l : List ℕ). decimal a ++ l) (sym (append_assoc (space ∷ decimal b) (marks ns) (lf ∷ [])))
 
--- a text that is empty takes no byte
+-- the line of a code
 
-pub long_none : {text : List ℕ} {most : ℕ} → text ≡ [] → Long text most 0
-long_none e = record { is = sym (ap length e); few = omega arith }
-
-pub puts_none : {out text : List ℕ} {at : ℕ} → text ≡ [] → Puts out at text at out
-puts_none {out} {text} {at} e = rw e (record { out_is = refl; end_is = omega arith })
-
--- the line of a code from the words of its row
-
-entries_word : (rows : List ℕ) (k : ℕ) → get_or rows (row_at k + 0) 0 ≡ (row_of rows k).entries
-unfolding row_of
-entries_word rows k = ap (λ (i : ℕ). get_or rows i 0) (add-zero (row_at k))
-
-pub row_none : (rows : List ℕ) (k : ℕ) {e : ℕ} → e ≡ get_or rows (row_at k + 0) 0 → e ≡ 0 → row_line k (row_of rows k) ≡ []
+pub row_none : (k : ℕ) (r : Row) → r.entries ≡ 0 → row_line k r ≡ []
 unfolding row_line
-row_none rows k w z = rw (eq-eqb (row_of rows k).entries 0 (sym (entries_word rows k) ∙ sym w ∙ z))
+row_none k r z = rw (eq-eqb r.entries 0 z)
 
-pub row_some : (rows : List ℕ) (k : ℕ) {e c f l : ℕ} → e ≡ get_or rows (row_at k + 0) 0 → c ≡ get_or rows (row_at k + 1) 0 → f ≡ get_or rows (row_at k + 2) 0
-    → l ≡ get_or rows (row_at k + 3) 0 → (e ≡ 0 → ⊥) → row_line k (row_of rows k) ≡ numbers_line (k ∷ e ∷ c ∷ f ∷ l ∷ [])
-unfolding row_line row_of
-row_some rows k we wc wf wl n =
-    let here = we ∙ entries_word rows k in
-    rw (ne_eqb (get_or rows (row_at k) 0) 0 (λ z. n (here ∙ z)), wc, wf, wl, here)
+pub row_some : (k : ℕ) (r : Row) → (r.entries ≡ 0 → ⊥) → row_line k r ≡ numbers_line (k ∷ r.entries ∷ r.cards ∷ r.earliest ∷ r.latest ∷ [])
+unfolding row_line
+row_some k r n = rw (ne_eqb r.entries 0 n)
 
 -- the lines of the codes from k to the highest
 
-pub rows_turn : (rows : List ℕ) (k most : ℕ) → k ≤ most
+pub rows_turn : (rows : List Row) (k most : ℕ) → k ≤ most
     → row_lines rows k (most + 1 - k) ≡ row_line k (row_of rows k) ++ row_lines rows (k + 1) (most + 1 - (k + 1))
 unfolding row_lines
 rows_turn rows k most h =
@@ -65,7 +55,7 @@ rows_turn rows k most h =
     let s : k + 1 ≡ suc k = omega arith in
     rw (e, s)
 
-pub rows_done : (rows : List ℕ) (k most : ℕ) → most < k → row_lines rows k (most + 1 - k) ≡ []
+pub rows_done : (rows : List Row) (k most : ℕ) → most < k → row_lines rows k (most + 1 - k) ≡ []
 unfolding row_lines
 rows_done rows k most h = let e : most + 1 - k ≡ 0 = omega arith in rw e
 
@@ -79,25 +69,59 @@ pub rate_some : (cards entries : ℕ) → (cards ≡ 0 → ⊥) → rate_line ca
 unfolding rate_line
 rate_some cards entries n = rw (ne_eqb cards 0 n)
 
--- the totals
+-- the whole text is not long: a number has twenty digits at most, whatever it is
 
-pub totals_long : (cards entries : ℕ)
-    → length (total_lines cards entries) ≡ length (numbers_line (cards ∷ [])) + length (numbers_line (entries ∷ [])) + length (rate_line cards entries)
-unfolding total_lines
-totals_long cards entries = simp length-append (omega arith)
+digits_few : (fuel n : ℕ) (acc : List ℕ) → length (digits fuel n acc) ≤ fuel + length acc
+unfolding digits
+digits_few zero n acc = omega arith
+digits_few (suc fuel) n acc =
+    by_cases (ltb n 10)
+    (λ t. rw t (omega arith))
+    (λ t. rw t (omega (arith, digits_few fuel (n / 10) ((48 + n % 10) ∷ acc))))
 
--- the whole text, and the report that it is
+decimal_few : (n : ℕ) → length (decimal n) ≤ 20
+unfolding decimal
+decimal_few n = digits_few 20 n []
 
-pub text_long : (rows : List ℕ) (t : Totals) → length (text_of rows t) ≡ length (row_lines rows 1 most_code) + length (total_lines t.cards t.entries)
-unfolding text_of
-text_long rows t = length-append (row_lines rows 1 most_code) (total_lines t.cards t.entries)
+line_few : (a : ℕ) (ns : List ℕ) → length (numbers_line (a ∷ ns)) ≤ 21 * length (a ∷ ns)
+unfolding numbers_line
+line_few a [] = omega (arith, decimal_few a, length-append (decimal a) (lf ∷ []))
+line_few a (b ∷ ns) = omega (arith, decimal_few a, line_few b ns, length-append (decimal a) (space ∷ numbers_line (b ∷ ns)))
 
-pub report_refused : (text out : List ℕ) → length out < length text → PutsReport text out (refused_wrote short_room) out
-report_refused text out h =
-    rw (lt-ltb (length out) (length text) h) (record { answer = record { number_is = refl; count_is = refl }; out_is = refl; scratch_is = refl })
+row_few : (k : ℕ) (r : Row) → length (row_line k r) ≤ 105
+unfolding row_line
+row_few k r = by_cases (eqb r.entries 0) (λ t. rw t (omega arith)) (λ t. rw t (line_few k (r.entries ∷ r.cards ∷ r.earliest ∷ r.latest ∷ [])))
+
+rows_few : (rows : List Row) (k n : ℕ) → length (row_lines rows k n) ≤ 105 * n
+unfolding row_lines
+rows_few rows k zero = omega arith
+rows_few rows k (suc n) =
+    omega (arith, length-append (row_line k (row_of rows k)) (row_lines rows (suc k) n), row_few k (row_of rows k), rows_few rows (suc k) n)
+
+rate_few : (cards entries : ℕ) → length (rate_line cards entries) ≤ 42
+unfolding rate_line
+rate_few cards entries =
+    by_cases (eqb cards 0) (λ t. rw t (omega arith)) (λ t. rw t (line_few (1000 * entries / cards) (1000 * entries % cards ∷ [])))
+
+pub text_few : (rows : List Row) (t : Totals) → length (text_of rows t) < 2 ^ 32
+unfolding text_of total_lines
+text_few rows t =
+    let rate = rate_line t.cards t.entries in
+    omega (
+      arith,
+      length-append (row_lines rows 1 most_code) (numbers_line (t.cards ∷ []) ++ (numbers_line (t.entries ∷ []) ++ rate)),
+      length-append (numbers_line (t.cards ∷ [])) (numbers_line (t.entries ∷ []) ++ rate),
+      length-append (numbers_line (t.entries ∷ [])) rate,
+      rows_few rows 1 most_code,
+      line_few t.cards [],
+      line_few t.entries [],
+      rate_few t.cards t.entries,
+    )
+
+-- the report that it is
 
 pub report_written : (text out : List ℕ) {left : List ℕ} {end : ℕ} → length text ≤ length out → Puts out 0 text end left
-    → PutsReport text out (record { number = 0; count = end }) left
+    → PutsReport text out (wrote_of (Ok end)) left
 report_written text out {left} h p =
     let e : 0 + length text ≡ length text = omega arith in
     let front : left ≡ text ++ drop (length text) out = p.out_is ∙ sets-eq text out 0 (omega arith) ∙ ap (λ (n : ℕ). text ++ drop n out) e in

@@ -9,7 +9,3 @@ pub record Reports (o : Reported) (r : Wrote) (out scratch : List ℕ) : Type 0 
   pub answer : Tells o.number o.count r
   pub out_is : out ≡ o.out
   pub scratch_is : scratch ≡ o.scratch
-
--- the answer of a report that is refused
-abbrev pub refused_wrote : ℕ → Wrote
-refused_wrote n = record { number = n; count = 0 }

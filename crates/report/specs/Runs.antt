@@ -1,19 +1,11 @@
--- A run of stores as the code goes along it: the words and the test of one store, a scratch that is clean, and all histories noted.
-use Rattle.std.specs.Prelude.{◌≡◌, Bool, ◌&&◌, List, ℕ, ◌-◌, ◌≤◌, leb, length, take, drop}
+-- A run of stores as the code goes along it: a scratch that is clean, and all histories noted.
+use Rattle.std.specs.Prelude.{◌≡◌, List, ℕ, ◌≤◌, length}
 use Rattle.model.specs.Lists.{total}
-use Rattle.model.specs.Layout.{sound}
 use Rattle.model.specs.Calls.{cleaned}
 use Rattle.model.specs.Report.{pieces, all_histories}
 use Rattle.report.specs.Rows.{blank, note_all}
+use Rattle.report.specs.declared.rows.Row.{Row}
 use Rattle.report.specs.declared.rows.Totals.{Totals}
-
--- the words of a store in the run
-abbrev pub store_at : List ℕ → ℕ → ℕ → List ℕ
-store_at run at n = take n (drop at run)
-
--- a store of n words at a place stands whole in the run, and is sound
-unfoldable pub sound_at : List ℕ → ℕ → ℕ → Bool
-sound_at run at n = leb n (length run - at) && sound (store_at run at n)
 
 -- a scratch of n bytes and more, the first n of which are zero
 pub record Clean (n : ℕ) (scratch : List ℕ) : Type 0 where
@@ -21,7 +13,7 @@ pub record Clean (n : ℕ) (scratch : List ℕ) : Type 0 where
   pub zero : cleaned n scratch ≡ scratch
 
 -- all histories of the run noted in blank rows, and the totals
-pub record NotedAll (run lengths : List ℕ) (r : Totals) (rows : List ℕ) : Type 0 where
+pub record NotedAll (run lengths : List ℕ) (r : Totals) (rows : List Row) : Type 0 where
   pub rows_are : rows ≡ note_all blank 0 (all_histories (pieces run lengths))
   pub cards_are : r.cards ≡ length (all_histories (pieces run lengths))
   pub entries_are : r.entries ≡ total length (all_histories (pieces run lengths))

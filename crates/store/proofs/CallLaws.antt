@@ -5,6 +5,7 @@ use mathlib.Core.Path.{◌≡◌, refl, sym, subst, ◌∙◌}
 use mathlib.Core.Bool.{true, false}
 use mathlib.Core.List.{List, []}
 use Prim.Native.Nat.{ℕ, ◌≤◌, ◌<◌}
+use native.Mathlib.Omega.{arith}
 use lib.ListN.{length}
 use borrow.Author.Tests.{lt-ltb, le-ltb, ne_eqb}
 use Rattle.model.specs.Shape.{need}
@@ -17,15 +18,21 @@ use Rattle.model.proofs.Sound.{sound_good, words_stay}
 use Rattle.model.proofs.Cases.{enter_cases, file_cases, show_cases}
 use Rattle.model.proofs.Outcomes.{admitted}
 use Rattle.model.proofs.Refused.{refused_act}
+use Rattle.store.specs.Numbers.{number_of}
+use Rattle.store.specs.declared.numbers.Refusal.{Refusal}
 use Rattle.store.specs.Leaves.{Gives, refused_answer, Admits, Leaves, Does}
 use Rattle.store.specs.declared.answer.Answer as given
-use Rattle.store.specs.Plans.{answered, Plans}
+use Rattle.store.specs.Plans.{Refuses, Planned}
 use Rattle.store.specs.declared.plans.Plan.{Plan}
 
 -- entry points
 
 refuses : (n : ℕ) {r : given.Answer} → r ≡ refused_answer n → Gives (refused n) r
 refuses n a = rw a (record { number_is = refl; comparisons_are = refl; scanned_is = refl; faults_are = refl })
+
+-- no refusal has the number of what is done
+pub refusal_some : (r : Refusal) → number_of r ≡ 0 → ⊥
+refusal_some r z = grind arith
 
 -- what the one door answers
 module _ (w scratch : List ℕ) where
@@ -60,42 +67,39 @@ module _ (w scratch : List ℕ) {k : ℕ} {left : List ℕ} (a : Admits w scratc
 
 -- calls on sound words: a plan that refuses leaves the words and the room, one that goes ahead leaves those of its step
 
-pub plan_done : {w : List ℕ} {bytes : List ℕ} {n : ℕ} {t : Step} {r : Plan} → Plans t.answer w bytes n r → {words room : List ℕ} → words ≡ encode t.store → room ≡ t.room
-    → Does t (answered r) words room
+pub plan_done : {w : List ℕ} {bytes : List ℕ} {n : ℕ} {t : Step} {r : Plan} → Planned t.answer w bytes n r → {words room : List ℕ} → words ≡ encode t.store → room ≡ t.room
+    → Does t r.answer words room
 plan_done p a b = record { answer = p.answer; words_are = a; room_is = b }
 
 module _ (w : List ℕ) (e : sound w ≡ true) (bytes : List ℕ) (n : ℕ) where
   g : Good (decode w)
   g = (sound_good w e).0
 
-  act_refused : (a : Act) {r : Plan} → Plans (perform (decode w) a).answer w bytes n r → (r.number ≡ 0 → ⊥)
-      → Does (perform (decode w) a) (answered r) w (room_of a)
-  act_refused a p z = let k = refused_act (decode w) g a (λ k. z (p.answer.number_is ∙ k)) in plan_done p (words_stay w e k.0) (sym k.1)
+  act_refused : (a : Act) {r : given.Answer} → Refuses (perform (decode w) a).answer r → Does (perform (decode w) a) r w (room_of a)
+  act_refused a p =
+      let k = refused_act (decode w) g a (λ k. p.refused (p.answer.number_is ∙ k)) in
+      record { answer = p.answer; words_are = words_stay w e k.0; room_is = sym k.1 }
 
-  module _ {r : Plan} (p : Plans (enter_step (decode w) bytes n).answer w bytes n r) where
-    pub enter_refused : (r.number ≡ 0 → ⊥) → Does (enter_step (decode w) bytes n) (answered r) w []
-    enter_refused = act_refused (Act.enter bytes n) p
+  pub enter_refused : {r : given.Answer} → Refuses (enter_step (decode w) bytes n).answer r → Does (enter_step (decode w) bytes n) r w []
+  enter_refused = act_refused (Act.enter bytes n)
 
-    pub enter_done : {words : List ℕ} → words ≡ encode (enter_step (decode w) bytes n).store
-        → Does (enter_step (decode w) bytes n) (answered r) words []
+  module _ {r : Plan} (p : Planned (enter_step (decode w) bytes n).answer w bytes n r) where
+    pub enter_done : {words : List ℕ} → words ≡ encode (enter_step (decode w) bytes n).store → Does (enter_step (decode w) bytes n) r.answer words []
     enter_done l = plan_done p l (sym (enter_cases (decode w) g bytes n (λ t. t.room ≡ []) (λ v. refl) (λ v l. refl) (λ v l f. refl) (λ v l f. refl)))
 
-  module _ (day code : ℕ) {r : Plan} (p : Plans (file_step (decode w) bytes n day code).answer w bytes n r) where
-    pub file_refused : (r.number ≡ 0 → ⊥) → Does (file_step (decode w) bytes n day code) (answered r) w []
-    file_refused = act_refused (Act.file bytes n day code) p
+  pub file_refused : (day code : ℕ) {r : given.Answer} → Refuses (file_step (decode w) bytes n day code).answer r → Does (file_step (decode w) bytes n day code) r w []
+  file_refused day code = act_refused (Act.file bytes n day code)
 
-    pub file_done : {words : List ℕ} → words ≡ encode (file_step (decode w) bytes n day code).store
-        → Does (file_step (decode w) bytes n day code) (answered r) words []
+  module _ (day code : ℕ) {r : Plan} (p : Planned (file_step (decode w) bytes n day code).answer w bytes n r) where
+    pub file_done : {words : List ℕ} → words ≡ encode (file_step (decode w) bytes n day code).store → Does (file_step (decode w) bytes n day code) r.answer words []
     file_done l = plan_done p l (sym (file_cases (decode w) g bytes n (λ t. t.room ≡ []) day code (λ v. refl) (λ v u. refl) (λ v u l. refl) (λ v u l f. refl) (λ v u l f. refl)))
 
-  module _ (room : List ℕ) {r : Plan} (p : Plans (show_step (decode w) bytes n room).answer w bytes n r) where
-    pub show_refused : (r.number ≡ 0 → ⊥) → Does (show_step (decode w) bytes n room) (answered r) w room
-    show_refused = act_refused (Act.show bytes n room) p
+  pub show_refused : (room : List ℕ) {r : given.Answer} → Refuses (show_step (decode w) bytes n room).answer r → Does (show_step (decode w) bytes n room) r w room
+  show_refused room = act_refused (Act.show bytes n room)
 
-    pub show_done : {left : List ℕ} → left ≡ (show_step (decode w) bytes n room).room
-        → Does (show_step (decode w) bytes n room) (answered r) w left
+  module _ (room : List ℕ) {r : Plan} (p : Planned (show_step (decode w) bytes n room).answer w bytes n r) where
+    pub show_done : {left : List ℕ} → left ≡ (show_step (decode w) bytes n room).room → Does (show_step (decode w) bytes n room) r.answer w left
     show_done l = plan_done p (words_stay w e (show_cases (decode w) g bytes n (λ t. t.store ≡ decode w) room (λ v. refl) (λ v l. refl) (λ v l b. refl) (λ v l b. refl))) l
 
-  module _ (room : List ℕ) {r : Plan} (p : Plans (withdraw_step (decode w) bytes n room).answer w bytes n r) where
-    pub withdraw_refused : (r.number ≡ 0 → ⊥) → Does (withdraw_step (decode w) bytes n room) (answered r) w room
-    withdraw_refused = act_refused (Act.withdraw bytes n room) p
+  pub withdraw_refused : (room : List ℕ) {r : given.Answer} → Refuses (withdraw_step (decode w) bytes n room).answer r → Does (withdraw_step (decode w) bytes n room) r w room
+  withdraw_refused room = act_refused (Act.withdraw bytes n room)

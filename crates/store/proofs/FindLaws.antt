@@ -6,9 +6,10 @@ use mathlib.Core.Bool.{true, false}
 use mathlib.Core.List.{List, [], ◌∷◌, ◌++◌, map, append_assoc, append-nil}
 use Prim.Native.Nat.{ℕ, suc, ◌+◌, ◌≤◌, ◌<◌}
 use native.Mathlib.Omega.{arith}
-use lib.Dec.{eqb, ltb, lit<}
+use lib.Dec.{eqb, lit<}
 use lib.ListN.{length, get_or, take}
-use borrow.Author.Tests.{eqb-true, eq-eqb, ltb-true, ltb-false}
+use borrow.Author.Tests.{eqb-true, eq-eqb}
+use Rattle.std.proofs.Common.{Option, Some, None, is_some, slice_get}
 use Rattle.rules.proofs.Tests.{by_cases, both, all_of, not_both}
 use Rattle.rules.specs.Code.{code_of}
 use Rattle.rules.specs.Table.{address_of}
@@ -16,7 +17,7 @@ use Rattle.model.specs.Lists.{all, same}
 use Rattle.model.specs.Shape.{Shape, top_of, card_width}
 use Rattle.model.specs.Serial.{serial_ok, valid_serial}
 use Rattle.model.specs.Model.{Card, Store, bucket, address_in, chain_for, is, found, before, comparisons, cells_of, histories, history_in}
-use Rattle.model.specs.Layout.{to_length, to_serial, to_first, to_count, head_or, chained, segments_at, cards_at, first, last, packed, card_cell, card_word, good_card, sound, decode_as, decode}
+use Rattle.model.specs.Layout.{to_length, to_serial, to_first, to_count, head_or, chained, segments_at, cards_at, last, packed, card_cell, card_word, good_card, sound, decode_as, decode}
 use Rattle.model.specs.Meaning.{next_card, next_fault}
 use Rattle.model.proofs.Lists.{same_refl, same_eq, length_none, Every}
 use Rattle.model.proofs.Chains.{Stands, Stand}
@@ -92,10 +93,10 @@ module _ (bytes : List ℕ) (n : ℕ) (v : valid_serial bytes n ≡ true) where
 -- the search of cards of which at most one has the serial
 search_is : (sh : Shape) (w y key : List ℕ) (len : ℕ) (cs : List Card) (n prev : ℕ) → Every (λ c. has_key sh w c.at len key ≡ is y c) cs → length (found y cs) ≤ 1
     → search_in sh w len key (cells_of cs) n prev
-    ≡ record { held = ltb 0 (length (found y cs)); place = n + comparisons y cs; cell = first (cells_of (found y cs)); prev = last (prev ∷ cells_of (before y cs)) }
+    ≡ record { cell = slice_get (cells_of (found y cs)) 0; place = n + comparisons y cs; prev = last (prev ∷ cells_of (before y cs)) }
 unfolding comparisons last
 search_is sh w y key len [] n prev k h =
-    search_none sh w len key n prev ∙ (let e : n ≡ n + 0 = omega arith in λ i. record { held = false; place = e i; cell = 0; prev = prev })
+    search_none sh w len key n prev ∙ (let e : n ≡ n + 0 = omega arith in λ i. record { cell = None; place = e i; prev = prev })
 search_is sh w y key len (c ∷ cs) n prev k h =
     by_cases (is y c)
     (λ e. let z = length_none (found y cs) (omega (arith, rw e at h)) in
@@ -106,7 +107,7 @@ search_is sh w y key len (c ∷ cs) n prev k h =
 -- what a search of the serial's bucket finds is what the store holds
 pub search_finds : {w : List ℕ} {s : Store} → Rep w s → (bytes : List ℕ) (n : ℕ) → valid_serial bytes n ≡ true → (b : ℕ) (r : Found) → b ≡ address_in s (take n bytes)
     → r ≡ searched s.shape w (get_or w (segments_at s.shape + b) 0) n (packed_all bytes)
-    → Finds s (take n bytes) (record { bucket = b; held = r.held; place = r.place; cell = r.cell; prev = r.prev })
+    → Finds s (take n bytes) (record { bucket = b; found = r })
 unfolding searched
 search_finds {w} {s} r bytes n v b o eb eo =
     let y = take n bytes in
@@ -117,7 +118,6 @@ search_finds {w} {s} r bytes n v b o eb eo =
     ∙ search_is s.shape w y (packed_all bytes) n chain 0 0 (keys_are bytes n v s.shape w s.maxp s.p (address_in s y) chain (r.fair.addressed (address_in s y)) (bucket_stand r (address_in s y))) (look_once s r.fair y) in
     record {
       bucket_is = eb;
-      held_is = ap (λ (o : Found). o.held) f;
       place_is = ap (λ (o : Found). o.place) f ∙ omega arith;
       cell_is = ap (λ (o : Found). o.cell) f;
       prev_is = ap (λ (o : Found). o.prev) f ∙ last_after_none (cells_of (before y chain));
@@ -152,53 +152,70 @@ module _ {w : List ℕ} {s : Store} (r : Rep w s) (b : ℕ) (h : b < length s.bu
   prev_some (c ∷ cs) e n = ends_with c cs e
 
 -- no card of the chain has the serial
-pub record NotHeld (w : List ℕ) (s : Store) (y : List ℕ) (r : Spot) : Type 0 where
+pub record NotHeld (w : List ℕ) (s : Store) (y : List ℕ) (o : Found) : Type 0 where
   pub absent : Absent y (chain_for s y)
-  pub place_is : r.place ≡ length (chain_for s y)
-  pub cell_is : r.cell ≡ 0
-  pub prev_is : r.prev ≡ last (cells_of (chain_for s y))
+  pub place_is : o.place ≡ length (chain_for s y)
+  pub prev_is : o.prev ≡ last (cells_of (chain_for s y))
   -- the chain is empty, or the last card is that of prev
-  pub none_before : r.prev ≡ 0 → chain_for s y ≡ []
-  pub behind : (r.prev ≡ 0 → ⊥) → Behind w s (chain_for s y) [] r.prev
+  pub none_before : o.prev ≡ 0 → chain_for s y ≡ []
+  pub behind : (o.prev ≡ 0 → ⊥) → Behind w s (chain_for s y) [] o.prev
 
--- one card of the chain has it
-pub record IsHeld (w : List ℕ) (s : Store) (y : List ℕ) (r : Spot) : Type 0 where
+-- one card of the chain has it, and stands in cell i
+pub record IsHeld (w : List ℕ) (s : Store) (y : List ℕ) (o : Found) (i : ℕ) : Type 0 where
   pub present : Present y (chain_for s y)
-  pub place_is : r.place ≡ length (before y (chain_for s y)) + 1
-  pub cell_is : r.cell ≡ present.card.at
-  pub prev_is : r.prev ≡ last (cells_of (before y (chain_for s y)))
+  pub place_is : o.place ≡ length (before y (chain_for s y)) + 1
+  pub cell_is : i ≡ present.card.at
+  pub prev_is : o.prev ≡ last (cells_of (before y (chain_for s y)))
   pub stored : Stored w s present.card present.after
   pub history_is : history_in s y ≡ present.card.faults
   -- the card is the chain's first, or the one before it is that of prev
-  pub none_before : r.prev ≡ 0 → before y (chain_for s y) ≡ []
-  pub behind : (r.prev ≡ 0 → ⊥) → Behind w s (before y (chain_for s y)) (present.card ∷ present.after) r.prev
+  pub none_before : o.prev ≡ 0 → before y (chain_for s y) ≡ []
+  pub behind : (o.prev ≡ 0 → ⊥) → Behind w s (before y (chain_for s y)) (present.card ∷ present.after) o.prev
+
+-- a cell, if it was found
+pub cell_none : (o : Option ℕ) → is_some o ≡ false → o ≡ None
+cell_none None e = refl
+cell_none (Some i) e = cc
+
+pub cell_some : (o : Option ℕ) → is_some o ≡ true → (i : ℕ) × (o ≡ Some i)
+cell_some None e = cc
+cell_some (Some i) e = (i, refl)
+
+-- the first of some cells tells whether there is one
+held_none : (l : List Card) → slice_get (cells_of l) 0 ≡ None → l ≡ []
+held_none [] e = refl
+held_none (c ∷ l) e = cc
+
+held_some : (l : List Card) {i : ℕ} → slice_get (cells_of l) 0 ≡ Some i → 0 < length l
+held_some [] e = cc
+held_some (c ∷ l) e = omega arith
 
 module _ {w : List ℕ} {s : Store} (r : Rep w s) (y : List ℕ) {o : Spot} (f : Finds s y o) where
   at_home : address_in s y < length s.buckets
   at_home = address_in_lem s r.fair y
 
-  pub not_held_lem : o.held ≡ false → NotHeld w s y o
+  pub not_held_lem : o.found.cell ≡ None → NotHeld w s y o.found
   not_held_lem e =
-      let a = absent y (chain_for s y) (length_none (found y (chain_for s y)) (omega (arith, ltb-false 0 (length (found y (chain_for s y))) (sym f.held_is ∙ e)))) in
+      let a = absent y (chain_for s y) (held_none (found y (chain_for s y)) (sym f.cell_is ∙ e)) in
       let p = f.prev_is ∙ ap (λ (l : List Card). last (cells_of l)) a.whole in
       record {
         absent = a;
         place_is = f.place_is ∙ a.place;
-        cell_is = f.cell_is ∙ ap (λ (l : List Card). first (cells_of l)) a.none;
         prev_is = p;
         none_before = λ z. prev_none r (address_in s y) at_home [] (chain_for s y) (sym (append-nil (chain_for s y))) (sym p ∙ z);
         behind = λ n. subst (Behind w s (chain_for s y) []) (sym p) (prev_some r (address_in s y) at_home [] (chain_for s y) (sym (append-nil (chain_for s y))) (λ z. n (p ∙ z)));
       }
 
-  pub is_held : o.held ≡ true → IsHeld w s y o
-  is_held e =
-      let a = present y (chain_for s y) (omega (arith, look_once s r.fair y, ltb-true 0 (length (found y (chain_for s y))) (sym f.held_is ∙ e))) in
+  pub is_held : {i : ℕ} → o.found.cell ≡ Some i → IsHeld w s y o.found i
+  is_held {i} e =
+      let a = present y (chain_for s y) (omega (arith, look_once s r.fair y, held_some (found y (chain_for s y)) (sym f.cell_is ∙ e))) in
+      let only : slice_get (cells_of (found y (chain_for s y))) 0 ≡ Some a.card.at = ap (λ (l : List Card). slice_get (cells_of l) 0) a.only in
       let l = before y (chain_for s y) in
       let after = a.card ∷ a.after in
       record {
         present = a;
         place_is = f.place_is ∙ a.place;
-        cell_is = f.cell_is ∙ ap (λ (l : List Card). first (cells_of l)) a.only;
+        cell_is = cc (e, f.cell_is, only);
         prev_is = f.prev_is;
         stored = stored r (address_in s y) at_home l a.card a.after a.parts;
         history_is = ap histories a.only ∙ append-nil a.card.faults;
@@ -223,7 +240,7 @@ module _ (w : List ℕ) (e : sound w ≡ true) {h : Header} (r : Read w h) (byte
     home_ends = subst (λ (sh : Shape). Ends sh.limit (next_card sh w) (get_or w (segments_at sh + b) 0)) (read_store r).0 (bucket_ends (sound_is w e).0 b below)
 
     pub home_finds : valid_serial bytes n ≡ true → (o : Found) → o ≡ searched (shape_in h) w (get_or w (segments_at (shape_in h) + b) 0) n (packed_all bytes)
-        → Finds (decode w) (take n bytes) (record { bucket = b; held = o.held; place = o.place; cell = o.cell; prev = o.prev })
+        → Finds (decode w) (take n bytes) (record { bucket = b; found = o })
     home_finds v o er =
         search_finds (sound_is w e).0 bytes n v b o at (er ∙ ap (λ (sh : Shape). searched sh w (get_or w (segments_at sh + b) 0) n (packed_all bytes)) (sym (read_store r).0))
 
@@ -235,7 +252,7 @@ pub record HeldCell (w : List ℕ) (y : List ℕ) (h : Header) (i : ℕ) : Type 
   pub history : faults_from (shape_in h) w (card_word (shape_in h) w i to_first) ≡ history_in (decode w) y
   pub history_ends : Ends h.faults (next_fault (shape_in h) w) (card_word (shape_in h) w i to_first)
 
-pub held_cell : {w : List ℕ} {h : Header} {y : List ℕ} {o : Spot} → Read w h → IsHeld w (decode w) y o → HeldCell w y h o.cell
+pub held_cell : {w : List ℕ} {h : Header} {y : List ℕ} {o : Found} {i : ℕ} → Read w h → IsHeld w (decode w) y o i → HeldCell w y h i
 held_cell {w} r k =
     let l = (read_store r).0 in
     record {

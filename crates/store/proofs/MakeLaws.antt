@@ -3,18 +3,18 @@
 -- holds those of the card (`show_holds`, `withdraw_holds`), and with them it is that of the step (`show_room`, `withdraw_room`).
 use mathlib.Core.Path.{◌≡◌, refl, sym, ap, subst, ◌∙◌}
 use mathlib.Core.Logic.{⊎_elim}
-use mathlib.Core.Bool.{Bool, true, false}
+use mathlib.Core.Bool.{true}
 use mathlib.Core.List.{List, [], ◌∷◌, map}
 use Prim.Native.Nat.{ℕ, ◌+◌, ◌*◌, ◌≤◌, ◌<◌}
 use native.Mathlib.Omega.{arith}
 use lib.Dec.{lit<}
 use lib.ListN.{length, take, get_or, set, length-set}
 use lib.Seq.{sets, get_or-set_same}
-use borrow.Author.Tests.{lt-ltb, le-ltb, ne_eqb}
+use borrow.Author.Tests.{le-ltb, ne_eqb}
 use Rattle.rules.proofs.Tests.{eq?}
 use Rattle.model.specs.Shape.{Shape, top_of, card_width}
 use Rattle.model.specs.Serial.{valid_serial, valid_fault}
-use Rattle.model.specs.Model.{Fault, Card, Store, cards, held, faults_held, chain_for, comparisons, split_scan, contract_scan, fault_cells_of, placed, grown, entered, filed, history_in, removed, shrunk, withdrawn}
+use Rattle.model.specs.Model.{Fault, Card, Store, cards, held, faults_held, chain_for, comparisons, cells_of, split_scan, contract_scan, fault_cells_of, placed, grown, entered, filed, history_in, removed, shrunk, withdrawn}
 use Rattle.model.specs.Layout.{held_at, free_at, to_next, to_first, to_last, last, follow, fault_width, cards_at, faults_at, length_for, card_cell, card_word, read_fault, decode, encode, sound}
 use Rattle.model.specs.Meaning.{next_fault}
 use Rattle.model.specs.Words.{card_at, link_at, new_words, place_words, file_words, remove_words}
@@ -37,7 +37,9 @@ use Rattle.model.proofs.Remove.{rep_removed}
 use Rattle.reads.specs.declared.header.Header.{Header}
 use Rattle.reads.specs.Cells.{shape_in, Read}
 use Rattle.reads.specs.Chains.{faults_from}
-use Rattle.store.specs.Plans.{Places, Plans, Holds, Paired}
+use Rattle.store.specs.Plans.{Places, Planned, Holds, Paired}
+use Rattle.store.specs.Search.{Finds}
+use Rattle.std.proofs.Common.{Some, IsSome, slice_get}
 use Rattle.writer.specs.Writes.{MayPlace, MayFile, MayRemove}
 use Rattle.store.specs.declared.plans.Plan.{Plan}
 use Rattle.store.specs.declared.search.Spot.{Spot}
@@ -80,46 +82,55 @@ read_kept {w} {v} {h} {s} q t a b c =
       state = p_at_lem v s t ∙ c ∙ z.2;
     }
 
--- plans that go acceptedPlan
+-- plans that go ahead
 
--- the places of a plan as those of a search
-abbrev spot_of : Store → List ℕ → Plan → Bool → Spot
-spot_of s y r held = record { bucket = r.bucket; held = held; place = comparisons y (chain_for s y); cell = r.cell; prev = r.prev }
+abbrev spot_of : Store → List ℕ → Spot → Spot
+spot_of s y o = record { bucket = o.bucket; found = record { cell = o.found.cell; place = comparisons y (chain_for s y); prev = o.found.prev } }
 
-module _ (w : List ℕ) (e : sound w ≡ true) (bytes : List ℕ) (n : ℕ) {r : Plan} where
-  spot_none : Places (decode w) bytes n r → look (decode w) (take n bytes) ≡ [] → NotHeld w (decode w) (take n bytes) (spot_of (decode w) (take n bytes) r false)
-  spot_none q l =
-      not_held_lem (sound_is w e).0 (take n bytes) (record { bucket_is = q.bucket_is; held_is = rw l; place_is = refl; cell_is = q.cell_is; prev_is = q.prev_is }) refl
+cell_some : (l : List Card) → length l ≡ 1 → IsSome (slice_get (cells_of l) 0)
+cell_some [] e = absurd (omega arith)
+cell_some (c ∷ l) e = refl
 
-  spot_held : Places (decode w) bytes n r → length (look (decode w) (take n bytes)) ≡ 1 → IsHeld w (decode w) (take n bytes) (spot_of (decode w) (take n bytes) r true)
-  spot_held q l =
-      is_held (sound_is w e).0 (take n bytes)
-      (record { bucket_is = q.bucket_is; held_is = sym (lt-ltb 0 (length (look (decode w) (take n bytes))) (omega arith)); place_is = refl; cell_is = q.cell_is; prev_is = q.prev_is }) refl
+module _ (w : List ℕ) (e : sound w ≡ true) (bytes : List ℕ) (n : ℕ) {o : Spot} where
+  -- the places of a plan as those of a search
+  finds : Places (decode w) bytes n o → Finds (decode w) (take n bytes) (spot_of (decode w) (take n bytes) o)
+  finds q = record { bucket_is = q.bucket_is; cell_is = q.cell_is; place_is = refl; prev_is = q.prev_is }
 
-  -- the cell of a card that a plan found leads to its history
-  pub planned_cell : Places (decode w) bytes n r → length (look (decode w) (take n bytes)) ≡ 1 → {h : Header} → Read w h → HeldCell w (take n bytes) h r.cell
-  planned_cell q l h = held_cell h (spot_held q l)
+  spot_none : Places (decode w) bytes n o → look (decode w) (take n bytes) ≡ [] → NotHeld w (decode w) (take n bytes) (spot_of (decode w) (take n bytes) o).found
+  spot_none q l = not_held_lem (sound_is w e).0 (take n bytes) (finds q) (q.cell_is ∙ ap (λ (l : List Card). slice_get (cells_of l) 0) l)
+
+  spot_held : Places (decode w) bytes n o → {i : ℕ} → o.found.cell ≡ Some i → IsHeld w (decode w) (take n bytes) (spot_of (decode w) (take n bytes) o).found i
+  spot_held q k = is_held (sound_is w e).0 (take n bytes) (finds q) k
+
+  -- a plan for a serial that a card has, has its cell
+  pub planned_some : Places (decode w) bytes n o → length (look (decode w) (take n bytes)) ≡ 1 → IsSome o.found.cell
+  planned_some q l = rw q.cell_is (cell_some (look (decode w) (take n bytes)) l)
+
+  -- and that cell leads to its history
+  pub planned_cell : Places (decode w) bytes n o → {i : ℕ} → o.found.cell ≡ Some i → {h : Header} → Read w h → HeldCell w (take n bytes) h i
+  planned_cell q k h = held_cell h (spot_held q k)
 
   -- a serial's bucket is one of the table
-  bucket_top : Places (decode w) bytes n r → {h : Header} → Read w h → r.bucket < h.top
+  bucket_top : Places (decode w) bytes n o → {h : Header} → Read w h → o.bucket < h.top
   bucket_top q k =
       let t = (sound_is w e).0.fair in
       omega (arith, q.bucket_is, address_in_lem (decode w) t (take n bytes), t.number, size_top (decode w) t, ap top_of (read_store k).0, k.sized.top)
 
+module _ (w : List ℕ) (e : sound w ≡ true) (bytes : List ℕ) (n : ℕ) {r : Plan} where
   -- Enter
-  module _ (p : Plans (enter_step (decode w) bytes n).answer w bytes n r) (z : r.number ≡ 0) where
+  module _ (p : Planned (enter_step (decode w) bytes n).answer w bytes n r) where
     enter_facts : (valid_serial bytes n ≡ true) × (look (decode w) (take n bytes) ≡ []) × (held (decode w) < (decode w).shape.limit)
-    enter_facts = (enter_numbers (decode w) (sound_good w e).0 bytes n).done.0 (sym p.answer.number_is ∙ z)
+    enter_facts = (enter_numbers (decode w) (sound_good w e).0 bytes n).done.0 (sym p.answer.number_is ∙ p.done)
 
     enter_step_lem : enter_step (decode w) bytes n
         ≡ stays (gives 0 (comparisons (take n bytes) (chain_for (decode w) (take n bytes))) (split_scan (placed (decode w) (take n bytes))) 0) (entered (decode w) (take n bytes)) []
     unfolding enter_step
     enter_step_lem = let (v, l, b) = enter_facts in rw (v, l, ne_eqb (held (decode w)) (decode w).shape.limit (omega arith))
 
-    enter_none : NotHeld w (decode w) (take n bytes) (spot_of (decode w) (take n bytes) r false)
-    enter_none = spot_none (p.places z) enter_facts.1
+    enter_none : NotHeld w (decode w) (take n bytes) (spot_of (decode w) (take n bytes) r.spot).found
+    enter_none = spot_none w e bytes n p.places enter_facts.1
 
-    pub may_place : MayPlace w r.header r.bucket r.prev
+    pub may_place : MayPlace w r.header r.spot.bucket r.spot.found.prev
     may_place =
         let k = p.header in
         let s = decode w in
@@ -130,97 +141,101 @@ module _ (w : List ℕ) (e : sound w ≡ true) (bytes : List ℕ) (n : ℕ) {r :
         let new = taken_in w (cards_at s.shape) (card_width s.shape) s.shape.limit s.free (map (map card_cell) s.buckets) (in_card s.shape (lit< tt)) some t.fair.cells t.cards in
         record {
           sized = k.sized;
-          bucket = bucket_top (p.places z) k;
-          behind = omega (arith, prev_inside r.prev enter_none.behind, c);
+          bucket = bucket_top w e bytes n p.places k;
+          behind = omega (arith, prev_inside r.spot.found.prev enter_none.behind, c);
           free = rw (free_at_lem w s t) new.0;
           within = rw (free_at_lem w s t, ← c) new.1;
           held = omega (arith, held_at_lem w s t, enter_facts.2, c);
         }
 
     -- the words with the new card stand for the store with it, and once grown they are those of the step
-    pub rep_place : {v : List ℕ} → v ≡ place_words (shape_in r.header) w r.bucket r.prev (take n bytes) → Rep v (placed (decode w) (take n bytes))
+    pub rep_place : {v : List ℕ} → v ≡ place_words (shape_in r.header) w r.spot.bucket r.spot.found.prev (take n bytes) → Rep v (placed (decode w) (take n bytes))
     rep_place i =
         let (v, l, b) = enter_facts in
-        rw (i, ← (read_store p.header).0, (p.places z).bucket_is, enter_none.prev_is) (rep_placed w (decode w) (sound_is w e).0 (take n bytes) (valid_serial_lem bytes n v) l b)
+        rw (i, ← (read_store p.header).0, p.places.bucket_is, enter_none.prev_is) (rep_placed w (decode w) (sound_is w e).0 (take n bytes) (valid_serial_lem bytes n v) l b)
 
-    pub read_place : {v : List ℕ} → v ≡ place_words (shape_in r.header) w r.bucket r.prev (take n bytes) → Read v r.header
+    pub read_place : {v : List ℕ} → v ≡ place_words (shape_in r.header) w r.spot.bucket r.spot.found.prev (take n bytes) → Read v r.header
     unfolding placed
     read_place i = read_kept p.header (rep_place i) refl refl refl
 
     -- and their fifth word counts it
-    pub held_place : {v : List ℕ} → v ≡ place_words (shape_in r.header) w r.bucket r.prev (take n bytes) → get_or v held_at 0 ≡ get_or w held_at 0 + 1
+    pub held_place : {v : List ℕ} → v ≡ place_words (shape_in r.header) w r.spot.bucket r.spot.found.prev (take n bytes) → get_or v held_at 0 ≡ get_or w held_at 0 + 1
     unfolding place_words
     held_place {v} i =
         let sh = shape_in r.header in
         let new = get_or w free_at 0 in
-        let linked : List ℕ = set (sets (set w free_at (card_word sh w new to_next)) (card_at sh new to_next) (new_words (take n bytes))) (link_at sh r.bucket r.prev) new in
+        let linked : List ℕ = set (sets (set w free_at (card_word sh w new to_next)) (card_at sh new to_next) (new_words (take n bytes))) (link_at sh r.spot.bucket r.spot.found.prev) new in
         let long : length v ≡ length linked = ap length i ∙ length-set linked held_at (get_or w held_at 0 + 1) in
         ap (λ (l : List ℕ). get_or l held_at 0) i ∙ get_or-set_same linked held_at (get_or w held_at 0 + 1) 0 (omega (arith, long, (read_place i).sized.room))
 
-    pub made_enter : {v u : List ℕ} → v ≡ place_words (shape_in r.header) w r.bucket r.prev (take n bytes) → u ≡ encode (grown (decode v)) → u ≡ encode (enter_step (decode w) bytes n).store
+    pub made_enter : {v u : List ℕ} → v ≡ place_words (shape_in r.header) w r.spot.bucket r.spot.found.prev (take n bytes) → u ≡ encode (grown (decode v)) → u ≡ encode (enter_step (decode w) bytes n).store
     unfolding entered
     made_enter i j = j ∙ ap (λ (s : Store). encode (grown s)) (rep_decode _ _ (rep_place i)) ∙ ap (λ (t : Step). encode t.store) (sym enter_step_lem)
 
   -- File
-  module _ (day code : ℕ) (p : Plans (file_step (decode w) bytes n day code).answer w bytes n r) (z : r.number ≡ 0) where
+  module _ (day code : ℕ) (p : Planned (file_step (decode w) bytes n day code).answer w bytes n r) where
     file_facts : (valid_serial bytes n ≡ true) × (valid_fault day code ≡ true) × (length (look (decode w) (take n bytes)) ≡ 1) × (faults_held (decode w) < (decode w).shape.fault_limit)
-    file_facts = (file_numbers (decode w) (sound_good w e).0 bytes n day code).done.0 (sym p.answer.number_is ∙ z)
+    file_facts = (file_numbers (decode w) (sound_good w e).0 bytes n day code).done.0 (sym p.answer.number_is ∙ p.done)
 
     file_step_lem : file_step (decode w) bytes n day code
         ≡ stays (gives 0 (comparisons (take n bytes) (chain_for (decode w) (take n bytes))) 0 (length (history_in (decode w) (take n bytes)) + 1)) (filed (decode w) (take n bytes) day code) []
     unfolding file_step
     file_step_lem = let (v, u, l, b) = file_facts in rw (v, u, l, ne_eqb (faults_held (decode w)) (decode w).shape.fault_limit (omega arith))
 
-    file_held : IsHeld w (decode w) (take n bytes) (spot_of (decode w) (take n bytes) r true)
-    file_held = spot_held (p.places z) file_facts.2
+    pub file_some : IsSome r.spot.found.cell
+    file_some = planned_some w e bytes n p.places file_facts.2
 
-    pub may_file : MayFile w r.header r.cell
-    may_file =
-        let q = p.header in
-        let h = r.header in
-        let k = held_cell q file_held in
-        let s = decode w in
-        let t = (sound_is w e).0 in
-        let l = (read_store q).0 in
-        let f = ap (λ (sh : Shape). sh.fault_limit) l in
-        let some : 0 < length s.free_faults = omega (arith, fault_count s, t.fair.fault_cells.count, file_facts.3) in
-        let new = taken_in w (faults_at s.shape) fault_width s.shape.fault_limit s.free_faults (map history_of (cards s)) (lit< tt) some t.fair.fault_cells t.faults in
-        record {
-          sized = q.sized;
-          card = k.from_one;
-          inside = k.in_limit;
-          free = rw (free_faults_at_lem w s t) new.0;
-          within = rw (free_faults_at_lem w s t, ← f) new.1;
-          last = rw file_held.cell_is (subst (λ (sh : Shape). card_word sh w file_held.present.card.at to_last ≤ sh.fault_limit) l (last_fault file_held.stored));
-          count = omega (arith, k.count_word, ap length k.history, faults_long (shape_in h) w (card_word (shape_in h) w r.cell to_first), follow_length h.faults (next_fault (shape_in h) w) (card_word (shape_in h) w r.cell to_first));
-          held = omega (arith, faults_held_at_lem w s t, file_facts.3, f);
-        }
+    module _ {cell : ℕ} (found_in : r.spot.found.cell ≡ Some cell) where
+      file_held : IsHeld w (decode w) (take n bytes) (spot_of (decode w) (take n bytes) r.spot).found cell
+      file_held = spot_held w e bytes n p.places found_in
 
-    pub made_file : {v : List ℕ} → v ≡ file_words (shape_in r.header) w r.cell day code → v ≡ encode (file_step (decode w) bytes n day code).store
-    made_file i =
-        let (v, u, l, b) = file_facts in
-        rw (i, ← (read_store p.header).0, file_step_lem, file_held.cell_is)
-        (rep_words _ (filed (decode w) (take n bytes) day code) (rep_filed w (decode w) (sound_is w e).0 (take n bytes) day code u file_held.present b))
+      pub may_file : MayFile w r.header cell
+      may_file =
+          let q = p.header in
+          let h = r.header in
+          let k = held_cell q file_held in
+          let s = decode w in
+          let t = (sound_is w e).0 in
+          let l = (read_store q).0 in
+          let f = ap (λ (sh : Shape). sh.fault_limit) l in
+          let some : 0 < length s.free_faults = omega (arith, fault_count s, t.fair.fault_cells.count, file_facts.3) in
+          let new = taken_in w (faults_at s.shape) fault_width s.shape.fault_limit s.free_faults (map history_of (cards s)) (lit< tt) some t.fair.fault_cells t.faults in
+          record {
+            sized = q.sized;
+            card = k.from_one;
+            inside = k.in_limit;
+            free = rw (free_faults_at_lem w s t) new.0;
+            within = rw (free_faults_at_lem w s t, ← f) new.1;
+            last = rw file_held.cell_is (subst (λ (sh : Shape). card_word sh w file_held.present.card.at to_last ≤ sh.fault_limit) l (last_fault file_held.stored));
+            count = omega (arith, k.count_word, ap length k.history, faults_long (shape_in h) w (card_word (shape_in h) w cell to_first), follow_length h.faults (next_fault (shape_in h) w) (card_word (shape_in h) w cell to_first));
+            held = omega (arith, faults_held_at_lem w s t, file_facts.3, f);
+          }
+
+      pub made_file : {v : List ℕ} → v ≡ file_words (shape_in r.header) w cell day code → v ≡ encode (file_step (decode w) bytes n day code).store
+      made_file i =
+          let (v, u, l, b) = file_facts in
+          rw (i, ← (read_store p.header).0, file_step_lem, file_held.cell_is)
+          (rep_words _ (filed (decode w) (take n bytes) day code) (rep_filed w (decode w) (sound_is w e).0 (take n bytes) day code u file_held.present b))
 
   -- Show
-  module _ (room : List ℕ) (p : Plans (show_step (decode w) bytes n room).answer w bytes n r) (z : r.number ≡ 0) where
+  module _ (room : List ℕ) (p : Planned (show_step (decode w) bytes n room).answer w bytes n r) where
     show_facts : (valid_serial bytes n ≡ true) × (length (look (decode w) (take n bytes)) ≡ 1) × (2 * length (history_in (decode w) (take n bytes)) ≤ length room)
-    show_facts = (show_numbers (decode w) bytes n room (sound_good w e).0).done.0 (sym p.answer.number_is ∙ z)
+    show_facts = (show_numbers (decode w) bytes n room (sound_good w e).0).done.0 (sym p.answer.number_is ∙ p.done)
 
     -- the room holds the card's pairs, and with them it is that of the step
     pub show_holds : Holds w r room
-    show_holds = record { bytes = bytes; n = n; header = p.header; places = p.places z; one = show_facts.1; wide = show_facts.2 }
+    show_holds = record { bytes = bytes; n = n; header = p.header; places = p.places; one = show_facts.1; wide = show_facts.2 }
 
     pub show_room : {left : List ℕ} → Paired (decode w) r room left → left ≡ (show_step (decode w) bytes n room).room
     unfolding show_step
     show_room k =
         let (v, l, b) = show_facts in
-        k.pairs_are bytes n (p.places z) l ∙ rw (v, l, le-ltb (length room) (2 * length (history_in (decode w) (take n bytes))) b)
+        k.pairs_are bytes n p.places l ∙ rw (v, l, le-ltb (length room) (2 * length (history_in (decode w) (take n bytes))) b)
 
   -- Withdraw
-  module _ (room : List ℕ) (p : Plans (withdraw_step (decode w) bytes n room).answer w bytes n r) (z : r.number ≡ 0) where
+  module _ (room : List ℕ) (p : Planned (withdraw_step (decode w) bytes n room).answer w bytes n r) where
     withdraw_facts : (valid_serial bytes n ≡ true) × (length (look (decode w) (take n bytes)) ≡ 1) × (2 * length (history_in (decode w) (take n bytes)) ≤ length room)
-    withdraw_facts = (withdraw_numbers (decode w) bytes n room (sound_good w e).0).done.0 (sym p.answer.number_is ∙ z)
+    withdraw_facts = (withdraw_numbers (decode w) bytes n room (sound_good w e).0).done.0 (sym p.answer.number_is ∙ p.done)
 
     withdraw_step_lem : withdraw_step (decode w) bytes n room
         ≡ stays (gives 0 (comparisons (take n bytes) (chain_for (decode w) (take n bytes))) (contract_scan (removed (decode w) (take n bytes))) (length (history_in (decode w) (take n bytes))))
@@ -228,47 +243,51 @@ module _ (w : List ℕ) (e : sound w ≡ true) (bytes : List ℕ) (n : ℕ) {r :
     unfolding withdraw_step
     withdraw_step_lem = let (v, l, b) = withdraw_facts in rw (v, l, le-ltb (length room) (2 * length (history_in (decode w) (take n bytes))) b)
 
-    withdraw_held : IsHeld w (decode w) (take n bytes) (spot_of (decode w) (take n bytes) r true)
-    withdraw_held = spot_held (p.places z) withdraw_facts.1
+    pub withdraw_some : IsSome r.spot.found.cell
+    withdraw_some = planned_some w e bytes n p.places withdraw_facts.1
 
     -- the same of its room
     pub withdraw_holds : Holds w r room
-    withdraw_holds = record { bytes = bytes; n = n; header = p.header; places = p.places z; one = withdraw_facts.1; wide = withdraw_facts.2 }
+    withdraw_holds = record { bytes = bytes; n = n; header = p.header; places = p.places; one = withdraw_facts.1; wide = withdraw_facts.2 }
 
     pub withdraw_room : {left : List ℕ} → Paired (decode w) r room left → left ≡ (withdraw_step (decode w) bytes n room).room
-    withdraw_room k = k.pairs_are bytes n (p.places z) withdraw_facts.1 ∙ ap (λ (t : Step). t.room) (sym withdraw_step_lem)
+    withdraw_room k = k.pairs_are bytes n p.places withdraw_facts.1 ∙ ap (λ (t : Step). t.room) (sym withdraw_step_lem)
 
-    pub may_remove : MayRemove w r.header r.bucket r.prev r.cell
-    may_remove =
-        let q = p.header in
-        let k = held_cell q withdraw_held in
-        let s = decode w in
-        let t = (sound_is w e).0 in
-        let y = take n bytes in
-        let l = (read_store q).0 in
-        record {
-          sized = q.sized;
-          bucket = bucket_top (p.places z) q;
-          behind = omega (arith, prev_inside r.prev withdraw_held.behind, ap (λ (sh : Shape). sh.limit) l);
-          card = k.from_one;
-          inside = k.in_limit;
-          held = omega (arith, held_at_lem w s t, length_total (cards s), length_total (look s y), removed_total s t.fair y one, withdraw_facts.1);
-          filed = omega (arith, faults_held_at_lem w s t, k.count_word, faults_total (cards s), faults_total (look s y), removed_total s t.fair y filings);
-          ends = k.history_ends;
-          last_is =
-              rw withdraw_held.cell_is
-              (subst (λ (sh : Shape). card_word sh w withdraw_held.present.card.at to_last ≡ last (follow sh.fault_limit (next_fault sh w) (card_word sh w withdraw_held.present.card.at to_first))) l (history_last withdraw_held.stored));
-        }
+    module _ {cell : ℕ} (found_in : r.spot.found.cell ≡ Some cell) where
+      withdraw_held : IsHeld w (decode w) (take n bytes) (spot_of (decode w) (take n bytes) r.spot).found cell
+      withdraw_held = spot_held w e bytes n p.places found_in
 
-    -- the words without the card stand for the store without it, and once shrunk they are those of the step
-    pub rep_remove : {v : List ℕ} → v ≡ remove_words (shape_in r.header) w r.bucket r.prev r.cell → Rep v (removed (decode w) (take n bytes))
-    rep_remove i =
-        rw (i, ← (read_store p.header).0, (p.places z).bucket_is, withdraw_held.prev_is, withdraw_held.cell_is) (rep_removed w (decode w) (sound_is w e).0 (take n bytes) withdraw_held.present)
+      pub may_remove : MayRemove w r.header r.spot.bucket r.spot.found.prev cell
+      may_remove =
+          let q = p.header in
+          let k = held_cell q withdraw_held in
+          let s = decode w in
+          let t = (sound_is w e).0 in
+          let y = take n bytes in
+          let l = (read_store q).0 in
+          record {
+            sized = q.sized;
+            bucket = bucket_top w e bytes n p.places q;
+            behind = omega (arith, prev_inside r.spot.found.prev withdraw_held.behind, ap (λ (sh : Shape). sh.limit) l);
+            card = k.from_one;
+            inside = k.in_limit;
+            held = omega (arith, held_at_lem w s t, length_total (cards s), length_total (look s y), removed_total s t.fair y one, withdraw_facts.1);
+            filed = omega (arith, faults_held_at_lem w s t, k.count_word, faults_total (cards s), faults_total (look s y), removed_total s t.fair y filings);
+            ends = k.history_ends;
+            last_is =
+                rw withdraw_held.cell_is
+                (subst (λ (sh : Shape). card_word sh w withdraw_held.present.card.at to_last ≡ last (follow sh.fault_limit (next_fault sh w) (card_word sh w withdraw_held.present.card.at to_first))) l (history_last withdraw_held.stored));
+          }
 
-    pub read_remove : {v : List ℕ} → v ≡ remove_words (shape_in r.header) w r.bucket r.prev r.cell → Read v r.header
-    unfolding removed
-    read_remove i = read_kept p.header (rep_remove i) refl refl refl
+      -- the words without the card stand for the store without it, and once shrunk they are those of the step
+      pub rep_remove : {v : List ℕ} → v ≡ remove_words (shape_in r.header) w r.spot.bucket r.spot.found.prev cell → Rep v (removed (decode w) (take n bytes))
+      rep_remove i =
+          rw (i, ← (read_store p.header).0, p.places.bucket_is, withdraw_held.prev_is, withdraw_held.cell_is) (rep_removed w (decode w) (sound_is w e).0 (take n bytes) withdraw_held.present)
 
-    pub made_withdraw : {v u : List ℕ} → v ≡ remove_words (shape_in r.header) w r.bucket r.prev r.cell → u ≡ encode (shrunk (decode v)) → u ≡ encode (withdraw_step (decode w) bytes n room).store
-    unfolding withdrawn
-    made_withdraw i j = j ∙ ap (λ (s : Store). encode (shrunk s)) (rep_decode _ _ (rep_remove i)) ∙ ap (λ (t : Step). encode t.store) (sym withdraw_step_lem)
+      pub read_remove : {v : List ℕ} → v ≡ remove_words (shape_in r.header) w r.spot.bucket r.spot.found.prev cell → Read v r.header
+      unfolding removed
+      read_remove i = read_kept p.header (rep_remove i) refl refl refl
+
+      pub made_withdraw : {v u : List ℕ} → v ≡ remove_words (shape_in r.header) w r.spot.bucket r.spot.found.prev cell → u ≡ encode (shrunk (decode v)) → u ≡ encode (withdraw_step (decode w) bytes n room).store
+      unfolding withdrawn
+      made_withdraw i j = j ∙ ap (λ (s : Store). encode (shrunk s)) (rep_decode _ _ (rep_remove i)) ∙ ap (λ (t : Step). encode t.store) (sym withdraw_step_lem)

@@ -12,6 +12,8 @@ use borrow.Author.Tests.{eq-eqb, ne_eqb, lt-ltb, le-ltb}
 use Rattle.rules.specs.Table.{least, splits, contracts}
 use Rattle.rules.proofs.Tests.{by_cases}
 use Rattle.rules.proofs.States.{State, state_of, size_low}
+use Rattle.std.proofs.Common.{Some, None, Ok, Err}
+use Rattle.model.specs.Numbers.{bad_serial, bad_fault}
 use Rattle.model.specs.Bounds.{cards_ever}
 use Rattle.model.specs.Shape.{Shape, top_of, faults_ever}
 use Rattle.model.specs.Serial.{valid_serial, valid_fault}
@@ -28,8 +30,9 @@ use Rattle.reads.specs.declared.header.Header.{Header}
 use Rattle.reads.specs.Cells.{shape_in, Read}
 use Rattle.reads.specs.Chains.{Ends}
 use Rattle.store.specs.Search.{Finds}
-use Rattle.store.specs.Leaves.{Gives}
-use Rattle.store.specs.Plans.{grow_scan, shrink_scan, refused_plan, accepted_plan, answered, Plans, PlansFor}
+use Rattle.store.specs.Leaves.{refused_answer}
+use Rattle.store.specs.Plans.{grow_scan, shrink_scan, refused_after, accepted_plan, Refuses, Planned, PlansFor}
+use Rattle.store.specs.declared.answer.Answer as given
 use Rattle.store.specs.declared.plans.Plan.{Plan}
 use Rattle.store.specs.declared.search.Spot.{Spot}
 use Rattle.reads.proofs.AlongLaws.{follow_length}
@@ -116,109 +119,104 @@ module _ {w : List ℕ} (e : sound w ≡ true) {h : Header} (q : Read w h) where
 
 -- the two kinds of plans
 
-module _ {w : List ℕ} {h : Header} (q : Read w h) (bytes : List ℕ) (n : ℕ) {a : Answer} where
-  plan_refused : (k place faults : ℕ) → a ≡ gives (suc k) place 0 faults → Plans a w bytes n (refused_plan h (suc k) place faults)
-  plan_refused k place faults g =
-      rw g (record { answer = record { number_is = refl; comparisons_are = refl; scanned_is = refl; faults_are = refl }; header = q; places = λ z. absurd (omega arith) })
+plan_refused : {a : Answer} (k place faults : ℕ) → a ≡ gives (suc k) place 0 faults → Refuses a (refused_after (suc k) place faults)
+plan_refused k place faults g =
+    rw g (record { answer = record { number_is = refl; comparisons_are = refl; scanned_is = refl; faults_are = refl }; refused = λ z. absurd (omega arith) })
 
-  plan_accepted : valid_serial bytes n ≡ true → {o : Spot} → Finds (decode w) (take n bytes) o → (scan faults : ℕ) → a ≡ gives 0 o.place scan faults → Plans a w bytes n (accepted_plan h o scan faults)
-  plan_accepted v f scan faults g =
-      rw g (record {
-        answer = record { number_is = refl; comparisons_are = refl; scanned_is = refl; faults_are = refl };
-        header = q;
-        places = λ z. record { valid = v; bucket_is = f.bucket_is; cell_is = f.cell_is; prev_is = f.prev_is };
-      })
-
--- a call that is refused before its serial is looked for
-module _ {w : List ℕ} (bytes : List ℕ) (n : ℕ) {a : Answer} {r : Plan} where
-  plan_refused_early : (k : ℕ) → Gives (gives (suc k) 0 0 0) (answered r) × Read w r.header → a ≡ gives (suc k) 0 0 0 → Plans a w bytes n r
-  plan_refused_early k t g = rw g (record { answer = t.0; header = t.1; places = λ z. absurd (omega (arith, t.0.number_is)) })
+plan_accepted : {w : List ℕ} {h : Header} → Read w h → (bytes : List ℕ) (n : ℕ) → valid_serial bytes n ≡ true → {o : Spot} → Finds (decode w) (take n bytes) o
+    → {a : Answer} (scan faults : ℕ) → a ≡ gives 0 o.found.place scan faults → Planned a w bytes n (accepted_plan h o scan faults)
+plan_accepted q bytes n v f scan faults g =
+    rw g (record {
+      answer = record { number_is = refl; comparisons_are = refl; scanned_is = refl; faults_are = refl };
+      done = refl;
+      header = q;
+      places = record { valid = v; bucket_is = f.bucket_is; cell_is = f.cell_is; prev_is = f.prev_is };
+    })
 
 -- the header of a plan for any room of so many words
-pub plans_header : {step : List ℕ → Step} {room : ℕ} {w bytes : List ℕ} {n : ℕ} {r : Plan} → PlansFor step room w bytes n r → Read w r.header
+pub plans_header : {step : List ℕ → Step} {room : ℕ} {w bytes : List ℕ} {n : ℕ} {r : Plan} → PlansFor step room w bytes n (Ok r) → Read w r.header
 plans_header {room = room} p = (p.with_room (replicate room 0) (length-replicate {A = ℕ} room 0)).header
 
 -- the ways out of each plan
 
 -- 4 and 5
-module _ (w : List ℕ) (bytes : List ℕ) (n : ℕ) {r : Plan} where
-  module _ (t : Gives (gives 4 0 0 0) (answered r) × Read w r.header) (v : valid_serial bytes n ≡ false) where
-    pub enter_invalid : Plans (enter_step (decode w) bytes n).answer w bytes n r
+module _ (w : List ℕ) (bytes : List ℕ) (n : ℕ) where
+  module _ (v : valid_serial bytes n ≡ false) where
+    pub enter_invalid : Refuses (enter_step (decode w) bytes n).answer (refused_answer bad_serial)
     unfolding enter_step
-    enter_invalid = plan_refused_early bytes n 3 t (rw v)
+    enter_invalid = plan_refused 3 0 0 (rw v)
 
-    pub file_invalid : (day code : ℕ) → Plans (file_step (decode w) bytes n day code).answer w bytes n r
+    pub file_invalid : (day code : ℕ) → Refuses (file_step (decode w) bytes n day code).answer (refused_answer bad_serial)
     unfolding file_step
-    file_invalid day code = plan_refused_early bytes n 3 t (rw v)
+    file_invalid day code = plan_refused 3 0 0 (rw v)
 
-    pub pairs_invalid : (room : ℕ) → PlansFor (show_step (decode w) bytes n) room w bytes n r
+    pub pairs_invalid : (room : ℕ) → PlansFor (show_step (decode w) bytes n) room w bytes n (Err (refused_answer bad_serial))
     unfolding show_step
-    pairs_invalid room = record { with_room = λ given l. plan_refused_early bytes n 3 t (rw v) }
+    pairs_invalid room = record { with_room = λ given l. plan_refused 3 0 0 (rw v) }
 
-    pub withdraw_invalid : (room : ℕ) → PlansFor (withdraw_step (decode w) bytes n) room w bytes n r
+    pub withdraw_invalid : (room : ℕ) → PlansFor (withdraw_step (decode w) bytes n) room w bytes n (Err (refused_answer bad_serial))
     unfolding withdraw_step
-    withdraw_invalid room = record { with_room = λ given l. plan_refused_early bytes n 3 t (rw v) }
+    withdraw_invalid room = record { with_room = λ given l. plan_refused 3 0 0 (rw v) }
 
-  pub file_bad : Gives (gives 5 0 0 0) (answered r) × Read w r.header → valid_serial bytes n ≡ true → (day code : ℕ) → valid_fault day code ≡ false
-      → Plans (file_step (decode w) bytes n day code).answer w bytes n r
+  pub file_bad : valid_serial bytes n ≡ true → (day code : ℕ) → valid_fault day code ≡ false → Refuses (file_step (decode w) bytes n day code).answer (refused_answer bad_fault)
   unfolding file_step
-  file_bad t v day code u = plan_refused_early bytes n 4 t (rw (v, u))
+  file_bad v day code u = plan_refused 4 0 0 (rw (v, u))
 
 -- behind the search
 module _ (w : List ℕ) (e : sound w ≡ true) {h : Header} (q : Read w h) (bytes : List ℕ) (n : ℕ) where
   module _ (v : valid_serial bytes n ≡ true) where
     module _ {o : Spot} (f : Finds (decode w) (take n bytes) o) where
       -- no card has the serial
-      module _ (z : o.held ≡ false) where
+      module _ (z : o.found.cell ≡ None) where
         none : length (found (take n bytes) (chain_for (decode w) (take n bytes))) ≡ 0
         none = ap length (not_held_lem (sound_is w e).0 (take n bytes) f z).absent.none
 
-        pub enter_full : held (decode w) ≡ (decode w).shape.limit → Plans (enter_step (decode w) bytes n).answer w bytes n (refused_plan h 8 o.place 0)
+        pub enter_full : held (decode w) ≡ (decode w).shape.limit → Refuses (enter_step (decode w) bytes n).answer (refused_after 8 o.found.place 0)
         unfolding enter_step
-        enter_full k = plan_refused q bytes n 7 o.place 0 (rw (v, none, f.place_is, eq-eqb (held (decode w)) (decode w).shape.limit k))
+        enter_full k = plan_refused 7 o.found.place 0 (rw (v, none, f.place_is, eq-eqb (held (decode w)) (decode w).shape.limit k))
 
         pub enter_accepted : (held (decode w) ≡ (decode w).shape.limit → ⊥)
-            → Plans (enter_step (decode w) bytes n).answer w bytes n (accepted_plan h o (grow_scan (decode w) o.bucket) 0)
+            → Planned (enter_step (decode w) bytes n).answer w bytes n (accepted_plan h o (grow_scan (decode w) o.bucket) 0)
         unfolding enter_step
         enter_accepted k =
             plan_accepted q bytes n v f (grow_scan (decode w) o.bucket) 0
             (rw (v, none, f.place_is, f.bucket_is, grow_scan_lem (decode w) (sound_is w e).0.fair (take n bytes), ne_eqb (held (decode w)) (decode w).shape.limit k))
 
-        pub file_missing : (day code : ℕ) → valid_fault day code ≡ true → Plans (file_step (decode w) bytes n day code).answer w bytes n (refused_plan h 7 o.place 0)
+        pub file_missing : (day code : ℕ) → valid_fault day code ≡ true → Refuses (file_step (decode w) bytes n day code).answer (refused_after 7 o.found.place 0)
         unfolding file_step
-        file_missing day code u = plan_refused q bytes n 6 o.place 0 (rw (v, u, none, f.place_is))
+        file_missing day code u = plan_refused 6 o.found.place 0 (rw (v, u, none, f.place_is))
 
-        pub pairs_missing : (room : ℕ) → PlansFor (show_step (decode w) bytes n) room w bytes n (refused_plan h 7 o.place 0)
+        pub pairs_missing : (room : ℕ) → PlansFor (show_step (decode w) bytes n) room w bytes n (Err (refused_after 7 o.found.place 0))
         unfolding show_step
-        pairs_missing room = record { with_room = λ given l. plan_refused q bytes n 6 o.place 0 (rw (v, none, f.place_is)) }
+        pairs_missing room = record { with_room = λ given l. plan_refused 6 o.found.place 0 (rw (v, none, f.place_is)) }
 
       -- one has it
-      module _ (z : o.held ≡ true) where
+      module _ {i : ℕ} (z : o.found.cell ≡ Some i) where
         one : length (found (take n bytes) (chain_for (decode w) (take n bytes))) ≡ 1
         one = ap length (is_held (sound_is w e).0 (take n bytes) f z).present.only
 
-        pub enter_held : Plans (enter_step (decode w) bytes n).answer w bytes n (refused_plan h 6 o.place 0)
+        pub enter_held : Refuses (enter_step (decode w) bytes n).answer (refused_after 6 o.found.place 0)
         unfolding enter_step
-        enter_held = plan_refused q bytes n 5 o.place 0 (rw (v, one, f.place_is))
+        enter_held = plan_refused 5 o.found.place 0 (rw (v, one, f.place_is))
 
         module _ (day code : ℕ) (u : valid_fault day code ≡ true) where
-          pub file_full : faults_held (decode w) ≡ (decode w).shape.fault_limit → Plans (file_step (decode w) bytes n day code).answer w bytes n (refused_plan h 9 o.place 0)
+          pub file_full : faults_held (decode w) ≡ (decode w).shape.fault_limit → Refuses (file_step (decode w) bytes n day code).answer (refused_after 9 o.found.place 0)
           unfolding file_step
-          file_full k = plan_refused q bytes n 8 o.place 0 (rw (v, u, one, f.place_is, eq-eqb (faults_held (decode w)) (decode w).shape.fault_limit k))
+          file_full k = plan_refused 8 o.found.place 0 (rw (v, u, one, f.place_is, eq-eqb (faults_held (decode w)) (decode w).shape.fault_limit k))
 
           pub file_accepted : (faults_held (decode w) ≡ (decode w).shape.fault_limit → ⊥) → (count : ℕ) → count ≡ length (history_in (decode w) (take n bytes))
-              → Plans (file_step (decode w) bytes n day code).answer w bytes n (accepted_plan h o 0 (count + 1))
+              → Planned (file_step (decode w) bytes n day code).answer w bytes n (accepted_plan h o 0 (count + 1))
           unfolding file_step
           file_accepted k count l =
               plan_accepted q bytes n v f 0 (count + 1) (rw (v, u, one, f.place_is, l, ne_eqb (faults_held (decode w)) (decode w).shape.fault_limit k))
 
         module _ (room count : ℕ) (l : count ≡ length (history_in (decode w) (take n bytes))) where
-          pub pairs_small : room < 2 * count → PlansFor (show_step (decode w) bytes n) room w bytes n (refused_plan h 10 o.place count)
+          pub pairs_small : room < 2 * count → PlansFor (show_step (decode w) bytes n) room w bytes n (Err (refused_after 10 o.found.place count))
           unfolding show_step
           pairs_small b =
-              record { with_room = λ given k. plan_refused q bytes n 9 o.place count (rw (v, one, f.place_is, l, lt-ltb (length given) (2 * length (history_in (decode w) (take n bytes))) (omega arith))) }
+              record { with_room = λ given k. plan_refused 9 o.found.place count (rw (v, one, f.place_is, l, lt-ltb (length given) (2 * length (history_in (decode w) (take n bytes))) (omega arith))) }
 
-          pub pairs_accepted : 2 * count ≤ room → PlansFor (show_step (decode w) bytes n) room w bytes n (accepted_plan h o 0 count)
+          pub pairs_accepted : 2 * count ≤ room → PlansFor (show_step (decode w) bytes n) room w bytes n (Ok (accepted_plan h o 0 count))
           unfolding show_step
           pairs_accepted b =
               record { with_room = λ given k. plan_accepted q bytes n v f 0 count (rw (v, one, f.place_is, l, le-ltb (length given) (2 * length (history_in (decode w) (take n bytes))) (omega arith))) }
@@ -243,28 +241,28 @@ module _ (s : Store) (bytes : List ℕ) (n : ℕ) (room : List ℕ) where
       let (v, l, b) = (show_numbers s bytes n room g).done.0 z in
       (rw (v, l, le-ltb (length room) (2 * length (history_in s (take n bytes))) b), l)
 
-module _ (w : List ℕ) (e : sound w ≡ true) (bytes : List ℕ) (n room : ℕ) (r : Plan) (p : PlansFor (show_step (decode w) bytes n) room w bytes n r) where
-  pub withdraw_refused : (r.number ≡ 0 → ⊥) → PlansFor (withdraw_step (decode w) bytes n) room w bytes n r
-  withdraw_refused z =
-      record { with_room = λ given l. let q = p.with_room given l in rw (same_refused (decode w) bytes n given (λ k. z (q.answer.number_is ∙ k))) q }
+module _ (w : List ℕ) (e : sound w ≡ true) (bytes : List ℕ) (n room : ℕ) where
+  pub withdraw_refused : (r : given.Answer) → PlansFor (show_step (decode w) bytes n) room w bytes n (Err r) → PlansFor (withdraw_step (decode w) bytes n) room w bytes n (Err r)
+  withdraw_refused r p =
+      record { with_room = λ given l. let q = p.with_room given l in rw (same_refused (decode w) bytes n given (λ k. q.refused (q.answer.number_is ∙ k))) q }
 
-  pub withdraw_accepted : r.number ≡ 0 → (scan : ℕ) → scan ≡ shrink_scan (decode w) r.bucket
+  pub withdraw_accepted : (r : Plan) → PlansFor (show_step (decode w) bytes n) room w bytes n (Ok r) → (scan : ℕ) → scan ≡ shrink_scan (decode w) r.spot.bucket
       → PlansFor (withdraw_step (decode w) bytes n) room w bytes n
-      (record { number = 0; comparisons = r.comparisons; scanned = scan; faults = r.faults; bucket = r.bucket; cell = r.cell; prev = r.prev; header = r.header })
-  withdraw_accepted z scan k = record { with_room = λ given l. go given (p.with_room given l) }
+      (Ok (record { answer = record { number = r.answer.number; comparisons = r.answer.comparisons; scanned = scan; faults = r.answer.faults }; spot = r.spot; header = r.header }))
+  withdraw_accepted r p scan k = record { with_room = λ given l. go given (p.with_room given l) }
     where
-      go : (given : List ℕ) → Plans (show_step (decode w) bytes n given).answer w bytes n r → Plans (withdraw_step (decode w) bytes n given).answer w bytes n
-          (record { number = 0; comparisons = r.comparisons; scanned = scan; faults = r.faults; bucket = r.bucket; cell = r.cell; prev = r.prev; header = r.header })
+      go : (given : List ℕ) → Planned (show_step (decode w) bytes n given).answer w bytes n r → Planned (withdraw_step (decode w) bytes n given).answer w bytes n
+          (record { answer = record { number = r.answer.number; comparisons = r.answer.comparisons; scanned = scan; faults = r.answer.faults }; spot = r.spot; header = r.header })
       go given q =
-          let d = same_done (decode w) bytes n given (sound_good w e).0 (sym q.answer.number_is ∙ z) in
-          let o = q.places z in
+          let d = same_done (decode w) bytes n given (sound_good w e).0 (sym q.answer.number_is ∙ q.done) in
           rw d.0 (record {
             answer = record {
-              number_is = refl;
+              number_is = q.done;
               comparisons_are = q.answer.comparisons_are;
-              scanned_is = k ∙ ap (shrink_scan (decode w)) o.bucket_is ∙ sym (shrink_scan_lem (decode w) (sound_is w e).0.fair (take n bytes) d.1);
+              scanned_is = k ∙ ap (shrink_scan (decode w)) q.places.bucket_is ∙ sym (shrink_scan_lem (decode w) (sound_is w e).0.fair (take n bytes) d.1);
               faults_are = q.answer.faults_are;
             };
+            done = q.done;
             header = q.header;
-            places = λ _. record { valid = o.valid; bucket_is = o.bucket_is; cell_is = o.cell_is; prev_is = o.prev_is };
+            places = q.places;
           })

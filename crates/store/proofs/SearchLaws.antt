@@ -3,6 +3,7 @@ use mathlib.Core.Path.{◌≡◌, refl}
 use mathlib.Core.Bool.{true, false}
 use mathlib.Core.List.{List, [], ◌∷◌}
 use Prim.Native.Nat.{ℕ, ◌+◌}
+use Rattle.std.proofs.Common.{Some, None}
 use Rattle.model.specs.Shape.{Shape}
 use Rattle.model.specs.Meaning.{next_card}
 use Rattle.reads.specs.Chains.{Ends, has_key}
@@ -11,11 +12,11 @@ use Rattle.reads.proofs.AlongLaws.{Along, along_start}
 
 -- what the search has to do at cell i: the card there, or on to the cells behind it
 module _ (sh : Shape) (w : List ℕ) (len : ℕ) (key : List ℕ) where
-  pub search_none : (n prev : ℕ) → search_in sh w len key [] n prev ≡ record { held = false; place = n; cell = 0; prev = prev }
+  pub search_none : (n prev : ℕ) → search_in sh w len key [] n prev ≡ record { cell = None; place = n; prev = prev }
   unfolding search_in
   search_none n prev = refl
 
-  pub search_hit : (i n prev : ℕ) → has_key sh w i len key ≡ true → (l : List ℕ) → search_in sh w len key (i ∷ l) n prev ≡ record { held = true; place = n + 1; cell = i; prev = prev }
+  pub search_hit : (i n prev : ℕ) → has_key sh w i len key ≡ true → (l : List ℕ) → search_in sh w len key (i ∷ l) n prev ≡ record { cell = Some i; place = n + 1; prev = prev }
   unfolding search_in
   search_hit i n prev e l = rw e
 

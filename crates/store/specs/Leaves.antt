@@ -1,7 +1,9 @@
 -- What a call of the program gives and leaves, held to what the model says: the contracts of the calls.
-use Rattle.std.specs.Prelude.{◌≡◌, List, ℕ}
+use Rattle.std.specs.Prelude.{◌≡◌, List, ℕ, Result, Ok, Err}
 use Rattle.model.specs.Layout.{encode}
 use Rattle.model.specs.Calls.{Answer, Outcome, Step, Opened, admission, swept}
+use Rattle.store.specs.Numbers.{number_of}
+use Rattle.store.specs.declared.numbers.Refusal.{Refusal}
 use Rattle.store.specs.declared.answer.Answer as given
 use Rattle.store.specs.declared.answer.Wrote as wrote
 
@@ -16,6 +18,11 @@ pub record Gives (a : Answer) (r : given.Answer) : Type 0 where
 pub record Tells (number count : ℕ) (r : wrote.Wrote) : Type 0 where
   pub number_is : r.number ≡ number
   pub count_is : r.count ≡ count
+
+-- the words or bytes that an operation wrote, or the number of its refusal
+abbrev pub wrote_of : Result ℕ Refusal → wrote.Wrote
+wrote_of (Ok count) = record { number = 0; count = count }
+wrote_of (Err refusal) = record { number = number_of refusal; count = 0 }
 
 -- the answer of a call that is refused before it looks at the serial
 abbrev pub refused_answer : ℕ → given.Answer

@@ -1,3 +1,4 @@
+pub mod Numbers
 pub mod Leaves
 pub mod Plans
 pub mod Sequences

@@ -1,6 +1,9 @@
 // What each of the four calls gives, and what each operation above them gives.
 ghost use Rattle.std.specs.Prelude.{◌≡◌};
-ghost use Rattle.store.specs.Leaves.{refused_answer};
+ghost use Rattle.store.specs.Leaves.{refused_answer, wrote_of};
+ghost use Rattle.store.specs.Numbers.{number_of};
+
+use crate::numbers::Refusal;
 
 // The number, the cards compared, the cards scanned by a split or a contraction, and the faults that the card has.
 #[repr(C)]
@@ -13,14 +16,16 @@ pub struct Answer {
 }
 
 // The answer of a call that is refused before it looks at the serial.
-pub fn refuse(number: u32) -> Answer
-    ensures { result ≡ refused_answer number }
-{
-    Answer {
-        number,
-        comparisons: 0,
-        scanned: 0,
-        faults: 0,
+impl From<Refusal> for Answer {
+    ghost from_gives = { λ refusal answer. answer ≡ refused_answer (number_of refusal) };
+
+    fn from(refusal: Refusal) -> Answer {
+        Answer {
+            number: refusal.into(),
+            comparisons: 0,
+            scanned: 0,
+            faults: 0,
+        }
     }
 }
 
@@ -30,4 +35,19 @@ pub fn refuse(number: u32) -> Answer
 pub struct Wrote {
     pub number: u32,
     pub count: u32,
+}
+
+// The words or bytes written, or the refusal, where none is.
+impl From<Result<u32, Refusal>> for Wrote {
+    ghost from_gives = { λ outcome wrote. wrote ≡ wrote_of outcome };
+
+    fn from(outcome: Result<u32, Refusal>) -> Wrote {
+        match outcome {
+            Ok(count) => Wrote { number: 0, count },
+            Err(refusal) => Wrote {
+                number: refusal.into(),
+                count: 0,
+            },
+        }
+    }
 }

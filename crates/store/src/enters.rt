@@ -3,7 +3,7 @@ ghost use Rattle.std.specs.Prelude.{◌≡◌, true, []};
 ghost use Rattle.model.specs.Layout.{encode, decode, sound};
 ghost use Rattle.model.specs.Calls.{enter_step};
 ghost use Rattle.store.specs.Leaves.{Does};
-ghost use Rattle.store.specs.Plans.{Plans};
+ghost use Rattle.store.specs.Plans.{Planned};
 
 use crate::answer::Answer;
 use crate::plans;
@@ -12,13 +12,14 @@ use reads::layout;
 use writer::{table, writes};
 
 // Does what a plan of Enter says: the card takes a free cell behind the last one of the plan's bucket.
-pub fn make_enter(w: &mut [u32], serial: [u8; 16], len: usize, t: Plan)
-    requires { (sound w.old ≡ true) × Plans (enter_step (decode w.old) serial len).answer w.old serial len t × (t.number ≡ 0) }
+pub fn make_enter(w: &mut [u32], serial: [u8; 16], len: usize, plan: Plan)
+    requires { (sound w.old ≡ true) × Planned (enter_step (decode w.old) serial len).answer w.old serial len plan }
     ensures { w.new ≡ encode (enter_step (decode w.old) serial len).store }
 {
-    let h = t.header;
+    let h = plan.header;
+    let spot = plan.spot;
     let n = w[layout::HELD_AT] + 1;
-    writes::place(w, h, t.bucket, t.prev, serial, len);
+    writes::place(w, h, spot.bucket, spot.found.prev, serial, len);
     table::grow(w, h, n);
 }
 
@@ -27,10 +28,11 @@ pub fn enter_in(w: &mut [u32], serial: [u8; 16], len: usize) -> Answer
     requires { sound w.old ≡ true }
     ensures { Does (enter_step (decode w.old) serial len) result w.new [] }
 {
-    let t = plans::plan_enter(w, serial, len);
-    if t.number != 0 {
-        return plans::answer_of(t);
+    match plans::plan_enter(w, serial, len) {
+        Err(answer) => answer,
+        Ok(plan) => {
+            make_enter(w, serial, len, plan);
+            plan.answer
+        }
     }
-    make_enter(w, serial, len, t);
-    plans::answer_of(t)
 }

@@ -11,12 +11,12 @@ use crate::plans::Plan;
 use writer::writes;
 
 // Does what a plan of File says: the fault goes behind the last one of the card in the plan's cell.
-pub fn make_file(w: &mut [u32], t: Plan, day: u32, code: u32)
-    requires { (sound w.old ≡ true) × Ready (file_with (decode w.old) day code) w.old t }
-    ensures { Follows (file_with (decode w.old) day code) w.old t w.new }
+pub fn make_file(w: &mut [u32], plan: Plan, day: u32, code: u32)
+    requires { (sound w.old ≡ true) × Ready (file_with (decode w.old) day code) w.old plan }
+    ensures { Follows (file_with (decode w.old) day code) w.old plan w.new }
 {
-    let h = t.header;
-    writes::file_at(w, h, t.cell, day, code);
+    let cell = plan.spot.found.cell.unwrap();
+    writes::file_at(w, plan.header, cell, day, code);
 }
 
 // File on a store known to be sound.
@@ -24,10 +24,11 @@ pub fn file_in(w: &mut [u32], serial: [u8; 16], len: usize, day: u32, code: u32)
     requires { sound w.old ≡ true }
     ensures { Does (file_step (decode w.old) serial len day code) result w.new [] }
 {
-    let t = plans::plan_file(w, serial, len, day, code);
-    if t.number != 0 {
-        return plans::answer_of(t);
+    match plans::plan_file(w, serial, len, day, code) {
+        Err(answer) => answer,
+        Ok(plan) => {
+            make_file(w, plan, day, code);
+            plan.answer
+        }
     }
-    make_file(w, t, day, code);
-    plans::answer_of(t)
 }

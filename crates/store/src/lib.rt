@@ -7,6 +7,7 @@ ghost use Rattle.std.specs.Prelude.{[]};
 ghost use Rattle.model.specs.Calls.{open_call, asked};
 ghost use Rattle.model.specs.Runs.{Act, outcome};
 ghost use Rattle.store.specs.Leaves.{Leaves, Opens, Admits};
+ghost use Rattle.store.specs.Numbers.{number_in};
 
 use reads::layout;
 use writer::fresh;
@@ -14,7 +15,7 @@ use writer::fresh;
 mod answer; // answer.rt: what a call gives
 mod enters; // enters.rt: Enter on a sound store
 mod files; // files.rt: File on a sound store
-pub mod numbers; // numbers.rt: the numbers of refusals
+pub mod numbers; // numbers.rt: the refusals and their numbers
 mod order; // order.rt: the cards of a store one after another, by bucket and chain
 mod plans; // plans.rt: a call's whole answer before a word is changed
 mod search; // search.rt: the search of a chain for a serial
@@ -23,6 +24,7 @@ mod withdraws; // withdraws.rt: Withdraw on a sound store
 
 pub use answer::{Answer, Wrote};
 pub use checker::{check, clear};
+pub use numbers::{Refusal, number_of};
 pub use reads::layout::need;
 
 // What a caller sizes its buffers by.
@@ -33,7 +35,8 @@ pub use reads::layout::{
 // A call on a store known to be sound, in two steps: its plan, and what the plan says.
 pub use enters::make_enter;
 pub use files::make_file;
-pub use plans::{Plan, buckets, plan_enter, plan_file, plan_show, plan_withdraw, refuse_early};
+pub use plans::{Plan, buckets, plan_enter, plan_file, plan_show, plan_withdraw};
+pub use search::{Found, Spot};
 pub use shows::put_history;
 pub use withdraws::make_withdraw;
 
@@ -46,46 +49,51 @@ pub use reads::layout::{FAULTS_HELD_AT, HELD_AT, TO_CODE, TO_DAY, TO_FIRST, TO_N
 // Sets a fresh store for C cards and F faults with the load bounds U and L, whatever the words held: above U cards a bucket the table
 // grows, below L it contracts. Gives 1 where C or F is out of range, then 15 where U or L is, then 2 where the length is wrong, and in
 // all three every word stays; else 0.
-pub fn open(words: &mut [u32], cards: u32, faults: u32, upper: u32, lower: u32) -> u32
-    ensures { Opens (open_call words.old (asked cards faults upper lower)) result words.new }
+pub fn open(
+    words: &mut [u32],
+    cards: u32,
+    faults: u32,
+    upper: u32,
+    lower: u32,
+) -> Result<(), Refusal>
+    ensures { Opens (open_call words.old (asked cards faults upper lower)) (number_in result) words.new }
 {
     let s = layout::shape_for(cards, faults, upper, lower);
     if !layout::limits_ok(s) {
-        return numbers::BAD_LIMITS;
+        return Err(Refusal::BadLimits);
     }
     if !layout::bounds_ok(s) {
-        return numbers::BAD_BOUNDS;
+        return Err(Refusal::BadBounds);
     }
     if words.len() != layout::length_for(s) {
-        return numbers::BAD_LENGTH;
+        return Err(Refusal::BadLength);
     }
     fresh::fill(words, s);
-    0
+    Ok(())
 }
 
 // What every call asks first, of any words and scratch: 11 where the scratch is shorter than the words need, then 3 where they are
 // not those of a sound store, else 0. Under 11 the scratch stays, else the bytes that the check takes end zero.
-pub fn admit(words: &[u32], scratch: &mut [u8]) -> u32
-    ensures { Admits words.now scratch.old result scratch.new }
+pub fn admit(words: &[u32], scratch: &mut [u8]) -> Result<(), Refusal>
+    ensures { Admits words.now scratch.old (number_in result) scratch.new }
 {
     if scratch.len() < layout::need(words) {
-        return numbers::SHORT_SCRATCH;
+        return Err(Refusal::ShortScratch);
     }
     if !checker::check(words, scratch) {
-        return numbers::NOT_SOUND;
+        return Err(Refusal::NotSound);
     }
-    0
+    Ok(())
 }
 
 // Enters a card with this serial, at the end of its bucket's chain.
 pub fn enter(words: &mut [u32], scratch: &mut [u8], serial: [u8; 16], len: usize) -> Answer
     ensures { Leaves (outcome words.old scratch.old (Act.enter serial len)) result words.new [] scratch.new }
 {
-    let k = admit(words, scratch);
-    if k != 0 {
-        return answer::refuse(k);
+    match admit(words, scratch) {
+        Ok(()) => enters::enter_in(words, serial, len),
+        Err(refusal) => refusal.into(),
     }
-    enters::enter_in(words, serial, len)
 }
 
 // Adds a fault to the history of the card with this serial.
@@ -99,11 +107,10 @@ pub fn file(
 ) -> Answer
     ensures { Leaves (outcome words.old scratch.old (Act.file serial len day code)) result words.new [] scratch.new }
 {
-    let k = admit(words, scratch);
-    if k != 0 {
-        return answer::refuse(k);
+    match admit(words, scratch) {
+        Ok(()) => files::file_in(words, serial, len, day, code),
+        Err(refusal) => refusal.into(),
     }
-    files::file_in(words, serial, len, day, code)
 }
 
 // Lists the faults of the card with this serial in the room, day and code of each, by rising day and those of one day as filed; the words stay.
@@ -116,11 +123,10 @@ pub fn show(
 ) -> Answer
     ensures { Leaves (outcome words.now scratch.old (Act.show serial len room.old)) result words.now room.new scratch.new }
 {
-    let k = admit(words, scratch);
-    if k != 0 {
-        return answer::refuse(k);
+    match admit(words, scratch) {
+        Ok(()) => shows::show_in(words, serial, len, room),
+        Err(refusal) => refusal.into(),
     }
-    shows::show_in(words, serial, len, room)
 }
 
 // Lists the faults of the card with this serial in the room, as Show does, and removes the card.
@@ -133,9 +139,8 @@ pub fn withdraw(
 ) -> Answer
     ensures { Leaves (outcome words.old scratch.old (Act.withdraw serial len room.old)) result words.new room.new scratch.new }
 {
-    let k = admit(words, scratch);
-    if k != 0 {
-        return answer::refuse(k);
+    match admit(words, scratch) {
+        Ok(()) => withdraws::withdraw_in(words, serial, len, room),
+        Err(refusal) => refusal.into(),
     }
-    withdraws::withdraw_in(words, serial, len, room)
 }

@@ -1,40 +1,58 @@
-// The numbers of refusals, by name; each has the name and the value that it has in the definitions. What is done answers 0.
+// The refusals, and the number of each: each has the name and the value that it has in the definitions. What is done answers 0.
+ghost use Rattle.std.specs.Prelude.{◌≡◌};
+ghost use Rattle.store.specs.Numbers.{number_of, number_in};
 
-// Open: the limits are out of range; the words are not as many as they ask for.
-pub const BAD_LIMITS: u32 = 1;
+// Why a call, or an operation above the calls, does nothing.
+#[derive(Clone, Copy, Debug, PartialEq, Eq)]
+pub enum Refusal {
+    // Open: the limits are out of range; the words are not as many as they ask for.
+    BadLimits = 1,
+    BadLength = 2,
 
-pub const BAD_LENGTH: u32 = 2;
+    // The words are not those of a sound store.
+    NotSound = 3,
 
-// The words are not those of a sound store.
-pub const NOT_SOUND: u32 = 3;
+    // The serial, and the day or the code of a fault, are not valid.
+    BadSerial = 4,
+    BadFault = 5,
 
-// The serial, and the day or the code of a fault, are not valid.
-pub const BAD_SERIAL: u32 = 4;
+    // A card has the serial; no card has it.
+    AlreadyHeld = 6,
+    NotHeld = 7,
 
-pub const BAD_FAULT: u32 = 5;
+    // As many cards, or faults, are held as the limit allows.
+    CardsFull = 8,
+    FaultsFull = 9,
 
-// A card has the serial; no card has it.
-pub const ALREADY_HELD: u32 = 6;
+    // The room, or the output, is too short for the answer; the scratch is too short.
+    ShortRoom = 10,
+    ShortScratch = 11,
 
-pub const NOT_HELD: u32 = 7;
+    // A line is not well formed; a text is too long.
+    BadLine = 12,
+    LongText = 13,
 
-// As many cards, or faults, are held as the limit allows.
-pub const CARDS_FULL: u32 = 8;
+    // A report is asked over no store, or over more than eight.
+    BadStores = 14,
 
-pub const FAULTS_FULL: u32 = 9;
+    // Open: the load bounds are out of range.
+    BadBounds = 15,
+}
 
-// The room, or the output, is too short for the answer; the scratch is too short.
-pub const SHORT_ROOM: u32 = 10;
+impl From<Refusal> for u32 {
+    ghost from_gives = { λ refusal number. number ≡ number_of refusal };
 
-pub const SHORT_SCRATCH: u32 = 11;
+    fn from(refusal: Refusal) -> u32 {
+        refusal as u32
+    }
+}
 
-// A line is not well formed; a text is too long.
-pub const BAD_LINE: u32 = 12;
-
-pub const LONG_TEXT: u32 = 13;
-
-// A report is asked over no store, or over more than eight.
-pub const BAD_STORES: u32 = 14;
-
-// Open: the load bounds are out of range.
-pub const BAD_BOUNDS: u32 = 15;
+// The number of what was done or refused.
+pub fn number_of(outcome: Result<(), Refusal>) -> u32
+    ensures { result ≡ number_in outcome }
+{
+    match outcome {
+        Ok(()) => 0,
+        Err(refusal) => refusal.into(),
+    }
+}

@@ -7,7 +7,7 @@ ghost use Rattle.store.specs.Order.{place_of, head_from, Comes, Follows};
 use reads::header::Header;
 use reads::{cells, layout};
 
-// A card's bucket and cell; past the last card the cell is 0.
+// A card's bucket and cell.
 #[derive(Clone, Copy)]
 pub struct At {
     pub bucket: u32,
@@ -15,30 +15,21 @@ pub struct At {
 }
 
 // The first card of the buckets from b on.
-fn from_bucket(w: &[u32], h: Header, b: u32) -> At
+fn from_bucket(w: &[u32], h: Header, b: u32) -> Option<At>
     requires { (sound w.now ≡ true) × Read w.now h }
     ensures { result ≡ head_from (decode w.now) b }
 {
-    let end = h.maxp + h.p;
-    let mut a = b;
-    while a < end {
-        let first = cells::bucket_word(w, h, a);
-        if first != 0 {
-            return At {
-                bucket: a,
-                cell: first,
-            };
+    for bucket in b..h.maxp + h.p {
+        let cell = cells::bucket_word(w, h, bucket);
+        if cell != 0 {
+            return Some(At { bucket, cell });
         }
-        a += 1;
     }
-    At {
-        bucket: end,
-        cell: 0,
-    }
+    None
 }
 
 // The first card of a store.
-pub fn first_card(w: &[u32], h: Header) -> At
+pub fn first_card(w: &[u32], h: Header) -> Option<At>
     requires { (sound w.now ≡ true) × Read w.now h }
     ensures { result ≡ place_of (decode w.now) 0 }
 {
@@ -46,16 +37,13 @@ pub fn first_card(w: &[u32], h: Header) -> At
 }
 
 // The card behind one of its cards.
-pub fn next_card(w: &[u32], h: Header, at: At) -> At
+pub fn next_card(w: &[u32], h: Header, at: At) -> Option<At>
     requires { (sound w.now ≡ true) × Read w.now h × Comes (decode w.now) at }
     ensures { Follows (decode w.now) at result }
 {
-    let next = cells::card_word(w, h, at.cell, layout::TO_NEXT);
-    if next != 0 {
-        return At {
-            bucket: at.bucket,
-            cell: next,
-        };
+    let cell = cells::card_word(w, h, at.cell, layout::TO_NEXT);
+    if cell != 0 {
+        return Some(At { cell, ..at });
     }
     from_bucket(w, h, at.bucket + 1)
 }

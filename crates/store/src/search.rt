@@ -10,13 +10,12 @@ ghost use Rattle.store.specs.Search.{searched, Finds};
 use reads::header::Header;
 use reads::{cells, header, keys, layout, serial};
 
-// What a search gives: the place is the card's, from 1, if held, else the chain's length; the cell is 0 if not held; prev is the cell
-// before it, 0 for none, or the chain's last if not held.
+// What a search gives: the cell of the card, if one has the serial; the place is the card's, from 1, else the chain's length; prev is the
+// cell before the card, 0 for none, or the chain's last if no card has the serial.
 #[derive(Clone, Copy)]
 pub struct Found {
-    pub held: bool,
+    pub cell: Option<u32>,
     pub place: u32,
-    pub cell: u32,
     pub prev: u32,
 }
 
@@ -24,10 +23,7 @@ pub struct Found {
 #[derive(Clone, Copy)]
 pub struct Spot {
     pub bucket: u32,
-    pub held: bool,
-    pub place: u32,
-    pub cell: u32,
-    pub prev: u32,
+    pub found: Found,
 }
 
 // Whether card i has the key. Most cards are told by the word that holds the key's last byte, which is `end`.
@@ -57,15 +53,15 @@ pub fn search(w: &[u32], h: Header, first: u32, len: u32, key: [u32; layout::SER
     let last = keys::last_word(len);
     let end = key[last];
     let mut i = first;
-    let mut n: u32 = 0;
+    let mut place: u32 = 0;
     let mut prev: u32 = 0;
+    // Kept: no plainer, since this goes along a chain of cells by their next words and no index is counted by hand.
     while i != 0 {
-        n += 1;
+        place += 1;
         if is_sought(w, h, i, len, key, last, end) {
             return Found {
-                held: true,
-                place: n,
-                cell: i,
+                cell: Some(i),
+                place,
                 prev,
             };
         }
@@ -73,9 +69,8 @@ pub fn search(w: &[u32], h: Header, first: u32, len: u32, key: [u32; layout::SER
         i = cells::card_word(w, h, i, layout::TO_NEXT);
     }
     Found {
-        held: false,
-        place: n,
-        cell: 0,
+        cell: None,
+        place,
         prev,
     }
 }
@@ -89,14 +84,10 @@ pub fn find(w: &[u32], serial: [u8; 16], len: usize) -> Spot
     let key = serial::pack(serial);
     let h = header::header_of(w);
     let code = rules::serial_code(serial, len);
-    let b = rules::reader_address(code, h.maxp, h.p);
-    let first = cells::bucket_word(w, h, b);
-    let r = search(w, h, first, len as u32, key);
+    let bucket = rules::reader_address(code, h.maxp, h.p);
+    let first = cells::bucket_word(w, h, bucket);
     Spot {
-        bucket: b,
-        held: r.held,
-        place: r.place,
-        cell: r.cell,
-        prev: r.prev,
+        bucket,
+        found: search(w, h, first, len as u32, key),
     }
 }

@@ -12,12 +12,14 @@ use crate::{plans, shows};
 use writer::{table, writes};
 
 // Does what a plan of Withdraw says: the card in the plan's cell is taken out, and its cell and its fault cells are free.
-pub fn make_withdraw(w: &mut [u32], t: Plan)
-    requires { (sound w.old ≡ true) × Ready (withdraw_step (decode w.old)) w.old t }
-    ensures { Follows (withdraw_step (decode w.old)) w.old t w.new }
+pub fn make_withdraw(w: &mut [u32], plan: Plan)
+    requires { (sound w.old ≡ true) × Ready (withdraw_step (decode w.old)) w.old plan }
+    ensures { Follows (withdraw_step (decode w.old)) w.old plan w.new }
 {
-    let h = t.header;
-    writes::remove_at(w, h, t.bucket, t.prev, t.cell);
+    let h = plan.header;
+    let spot = plan.spot;
+    let cell = spot.found.cell.unwrap();
+    writes::remove_at(w, h, spot.bucket, spot.found.prev, cell);
     table::shrink(w, h);
 }
 
@@ -26,11 +28,12 @@ pub fn withdraw_in(w: &mut [u32], serial: [u8; 16], len: usize, room: &mut [u32]
     requires { sound w.old ≡ true }
     ensures { Does (withdraw_step (decode w.old) serial len room.old) result w.new room.new }
 {
-    let t = plans::plan_withdraw(w, serial, len, room.len());
-    if t.number != 0 {
-        return plans::answer_of(t);
+    match plans::plan_withdraw(w, serial, len, room.len()) {
+        Err(answer) => answer,
+        Ok(plan) => {
+            shows::put_history(w, plan, room);
+            make_withdraw(w, plan);
+            plan.answer
+        }
     }
-    shows::put_history(w, t, room);
-    make_withdraw(w, t);
-    plans::answer_of(t)
 }

@@ -8,7 +8,8 @@ use native.Mathlib.Omega.{arith}
 use lib.Dec.{ltb}
 use lib.ListN.{length, length-append}
 use borrow.Author.Tests.{lt-ltb, le-ltb}
-use Rattle.rules.proofs.Tests.{by_cases}
+use Rattle.rules.proofs.Tests.{by_cases, lt?}
+use mathlib.Core.Logic.{⊎_elim}
 use Rattle.model.specs.Text.{digits, decimal}
 
 -- what stands behind the digits
@@ -74,6 +75,14 @@ decimal_one n h = ap length (decimal_small n h)
 pub decimal_less : (n : ℕ) → 10 ≤ n → n < 2 ^ 64 → length (decimal n) ≡ length (decimal (n / 10)) + 1
 decimal_less n h k = ap length (decimal_more n h k) ∙ length-append (decimal (n / 10)) ((48 + n % 10) ∷ [])
 
+-- one digit is a number below 10, and two are one from 10 on
+pub decimal_below : (n : ℕ) → n < 2 ^ 64 → length (decimal n) ≤ 1 → n < 10
+decimal_below n k h =
+    ⊎_elim (λ (l : n < 10). l) (λ (l : 10 ≤ n). absurd (omega (arith, decimal_less n l k, decimal_least (n / 10)))) (lt? n 10)
+
+pub decimal_from : (n : ℕ) → 2 ≤ length (decimal n) → 10 ≤ n
+decimal_from n h = ⊎_elim (λ (l : n < 10). absurd (omega (arith, decimal_one n l))) (λ (l : 10 ≤ n). l) (lt? n 10)
+
 -- a power of ten is not 0
 power_some : (k : ℕ) → 1 ≤ 10 ^ k
 power_some zero = omega arith
@@ -87,3 +96,13 @@ decimal_long (suc k) n l h b =
     let q = pow-succ' 10 (suc k) in
     let more : 10 ≤ n = omega (arith, l, p, power_some k) in
     decimal_less n more b ∙ ap (λ (m : ℕ). m + 1) (decimal_long k (n / 10) (omega (arith, l, p)) (omega (arith, h, q)) (omega arith)) ∙ omega arith
+
+-- a 32-bit number has at most ten digits
+short_by : (k n : ℕ) → n < 10 ^ suc k → n < 2 ^ 64 → length (decimal n) ≤ suc k
+short_by zero n h b = omega (arith, decimal_one n (omega (arith, h)))
+short_by (suc k) n h b =
+    ⊎_elim (λ (l : n < 10). omega (arith, decimal_one n l))
+    (λ (l : 10 ≤ n). omega (arith, decimal_less n l b, short_by k (n / 10) (omega (arith, h, pow-succ' 10 (suc k))) (omega arith))) (lt? n 10)
+
+pub decimal_short : (n : ℕ) → n < 2 ^ 32 → length (decimal n) ≤ 10
+decimal_short n h = short_by 9 n (omega arith) (omega arith)

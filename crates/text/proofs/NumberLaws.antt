@@ -1,7 +1,8 @@
 -- Number fields: the test digit by digit, what a passed test tells, and the value with one digit more. Assumes nothing.
-use Prim.Native.Nat.{ℕ, zero, suc, ◌+◌, ◌-◌, ◌*◌, ◌^◌, ◌≤◌, ◌<◌}
-use mathlib.Core.Path.{◌≡◌}
-use mathlib.Core.List.{List, [], ◌∷◌}
+use Prim.Native.Nat.{ℕ, ◌+◌, ◌-◌, ◌*◌, ◌^◌, ◌≤◌, ◌<◌}
+use mathlib.Core.Path.{◌≡◌, refl}
+use Rattle.std.proofs.lemmas.List.Recursion.{and_at}
+use mathlib.Core.List.{List}
 use mathlib.Core.Bool.{Bool, true}
 use native.Mathlib.Nat.{pow-succ', pow-le-pow_right}
 use native.Mathlib.Numerals.{add-one}
@@ -14,9 +15,7 @@ use Rattle.model.specs.Text.{is_number, value_from}
 use Rattle.model.proofs.Lists.{between_is}
 
 all_at : (p : ℕ → Bool) (l : List ℕ) (i : ℕ) → i < length l → all p l ≡ true → p (get_or l i 0) ≡ true
-all_at p [] i h e = absurd (omega arith)
-all_at p (x ∷ xs) zero h e = (both (p x) (all p xs) e).0
-all_at p (x ∷ xs) (suc i) h e = all_at p xs i (omega arith) (both (p x) (all p xs) e).1
+all_at p l i = and_at (all p) p refl (λ _ _. refl) l i 0
 
 -- a number field has 1 to 9 bytes, each a digit
 pub number_long : (f : List ℕ) → is_number f ≡ true → (1 ≤ length f) × (length f ≤ 9)

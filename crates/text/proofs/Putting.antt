@@ -1,21 +1,14 @@
--- Texts written one behind another: `puts_then` joins two of them, `Left` is what a loop keeps of the text that it still has to write, and
+-- Texts written one behind another: `Left` is what a loop keeps of the text that it still has to write, and
 -- `put_front` and `put_rest` say what an output has then before and behind its end.
 -- Assumes nothing.
 use Prim.Native.Nat.{ℕ, suc, ◌+◌, ◌≤◌}
 use mathlib.Core.Path.{◌≡◌, refl, sym, ap, ◌∙◌}
 use mathlib.Core.List.{List, [], ◌∷◌, ◌++◌}
-use native.Mathlib.Nat.{add-zero}
 use native.Mathlib.Omega.{arith}
 use lib.ListN.{length, set, take, drop, length-append}
 use lib.Seq.{sets, length-sets, sets-eq, set_comm, length-take-le, take_at, drop_at, drop-drop}
 use Rattle.text.specs.Decimals.{Puts}
-
--- a run of stores, taken apart
-pub sets_append : (a b l : List ℕ) (i : ℕ) → sets l i (a ++ b) ≡ sets (sets l i a) (i + length a) b
-sets_append [] b l i = ap (λ (n : ℕ). sets l n b) (sym (add-zero i))
-sets_append (x ∷ a) b l i =
-    let e : suc i + length a ≡ i + suc (length a) = omega arith in
-    sets_append a b (set l i x) (suc i) ∙ ap (λ (n : ℕ). sets (sets (set l i x) (suc i) a) n b) e
+use Rattle.text.specs.Writing.{sets_append}
 
 -- a store behind the run can come first or last
 sets_past : (vs l : List ℕ) (i j v : ℕ) → i + length vs ≤ j → sets (set l j v) i vs ≡ set (sets l i vs) j v
@@ -28,11 +21,6 @@ sets_past (x ∷ vs) l i j v h =
 pub sets_last : (vs l : List ℕ) (i j v : ℕ) → j ≡ i + length vs → sets (set l j v) i vs ≡ sets l i (vs ++ (v ∷ []))
 sets_last vs l i j v e =
     sets_past vs l i j v (omega arith) ∙ ap (λ (k : ℕ). set (sets l i vs) k v) e ∙ sym (sets_append vs (v ∷ []) l i)
-
--- a text behind another
-pub puts_then : {out mid left : List ℕ} {at here end : ℕ} (a b : List ℕ) → Puts out at a here mid → Puts mid here b end left → Puts out at (a ++ b) end left
-puts_then {out} {mid} {left} {at} {here} {end} a b p q =
-    record { out_is = rw (sets_append a b out at, ← p.out_is, ← p.end_is) q.out_is; end_is = omega (arith, length-append a b) }
 
 -- the output keeps its length
 pub puts_length : {out left : List ℕ} {at end : ℕ} (text : List ℕ) → Puts out at text end left → length left ≡ length out

@@ -1,7 +1,7 @@
 // Numbers as text, written into an output that has room for them.
 ghost use Rattle.std.specs.Prelude.{◌≡◌, [], ◌∷◌, ◌+◌, ◌≤◌, ◌<◌, length};
 ghost use Rattle.model.specs.Text.{digit_zero, decimal};
-ghost use Rattle.text.specs.Decimals.{Puts, Digits, marked};
+ghost use Rattle.text.specs.Decimals.{Puts, Digits};
 
 use super::letters;
 
@@ -17,34 +17,18 @@ fn digit(d: u32) -> u8
 pub fn decimal_len(n: u32) -> usize
     ensures { Digits n result }
 {
-    if n < 10 {
-        return 1;
+    match n {
+        0..=9 => 1,
+        10..=99 => 2,
+        100..=999 => 3,
+        1_000..=9_999 => 4,
+        10_000..=99_999 => 5,
+        100_000..=999_999 => 6,
+        1_000_000..=9_999_999 => 7,
+        10_000_000..=99_999_999 => 8,
+        100_000_000..=999_999_999 => 9,
+        _ => 10,
     }
-    if n < 100 {
-        return 2;
-    }
-    if n < 1000 {
-        return 3;
-    }
-    if n < 10000 {
-        return 4;
-    }
-    if n < 100000 {
-        return 5;
-    }
-    if n < 1000000 {
-        return 6;
-    }
-    if n < 10000000 {
-        return 7;
-    }
-    if n < 100000000 {
-        return 8;
-    }
-    if n < 1000000000 {
-        return 9;
-    }
-    10
 }
 
 // One byte at `at`; the place behind it.
@@ -62,22 +46,11 @@ pub fn put_decimal(out: &mut [u8], at: usize, n: u32) -> usize
     ensures { Puts out.old at (decimal n) result out.new }
 {
     let end = at + decimal_len(n);
-    let mut i = end - 1;
     let mut m = n;
-    while 10 <= m {
+    for i in (at + 1..end).rev() {
         out[i] = digit(m % 10);
-        m = m / 10;
-        i -= 1;
+        m /= 10;
     }
-    out[i] = digit(m);
+    out[at] = digit(m);
     end
-}
-
-// A mark and a number behind it.
-pub fn put_marked(out: &mut [u8], at: usize, mark: u8, n: u32) -> usize
-    requires { at + length (marked mark n) ≤ length out.old }
-    ensures { Puts out.old at (marked mark n) result out.new }
-{
-    let next = put_byte(out, at, mark);
-    put_decimal(out, next, n)
 }

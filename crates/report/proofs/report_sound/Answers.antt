@@ -5,6 +5,7 @@ use Prim.Native.Nat.{ℕ}
 use native.Mathlib.Omega.{arith}
 use lib.ListN.{length}
 use Rattle.model.specs.Report.{pieces, all_histories}
+use Rattle.store.specs.Leaves.{wrote_of}
 use Rattle.report.specs.Rows.{blank}
 use Rattle.report.specs.Texts.{PutsReport}
 use Rattle.report.proofs.RowLaws.{histories_long, blank_long}
@@ -26,5 +27,5 @@ pub returns : goal.returns
 returns c =
     let n = c.note_all-t.ensures in
     let hs = all_histories (pieces c.args.words.now c.args.lengths.now) in
-    subst (λ (text : List ℕ). PutsReport text c.args.out.now c.put_report.result c.put_report.new.out)
+    subst (λ (text : List ℕ). PutsReport text c.args.out.now (wrote_of c.put_report.result) c.put_report.new.out)
     (text_is_report hs _ _ (run_codes _ (stores_sound _ _ c.requires.0)) n.rows_are n.cards_are n.entries_are) c.put_report.ensures

@@ -1,13 +1,13 @@
 -- `show` meets its contract: what the one door turns away is refused by its number, and on sound words the call is that on a store known to be sound.
-use Rattle.store.proofs.CallLaws.{sound_words, call_refused, call_does}
+use mathlib.Core.Path.{refl}
+use Rattle.store.proofs.CallLaws.{sound_words, refusal_some, call_refused, call_does}
 use Rattle.store.proofs.show.Goals as goal
 
-pub returns-then-k-ne0 : goal.returns-then-k-ne0
-returns-then-k-ne0 c = call_refused _ _ c.admit-k.ensures _ _ c.if-k-ne0.true c.refuse.ensures
+pub returns-in-Err : goal.returns-in-Err
+returns-in-Err c = call_refused _ _ c.in-Err.ensures _ _ (refusal_some _) c.into.ensures
 
 pub show_in-requires : goal.show_in-requires
-show_in-requires c = sound_words _ _ c.admit-k.ensures c.if-k-ne0.false
+show_in-requires c = sound_words _ _ c.in-Ok.ensures refl
 
-pub returns : goal.returns
-returns c =
-    call_does _ _ c.admit-k.ensures _ _ c.if-k-ne0.false c.show_in.ensures
+pub returns-in-Ok : goal.returns-in-Ok
+returns-in-Ok c = call_does _ _ c.in-Ok.ensures _ _ refl c.show_in.ensures

@@ -1,13 +1,11 @@
-use mathlib.Core.Path.{◌≡◌}
-use Prim.Native.Nat.{◌-◌, ◌*◌, ◌≤◌}
-use lib.ListN.{drop}
+use Rattle.std.proofs.Common.{◌≡◌}
 use Rattle.model.specs.Job.{pair_text}
-use Rattle.text.proofs.Putting.{Left}
+use Rattle.text.proofs.Sinking.{Left}
+use Rattle.job.proofs.AnswerLaws.{pairs_of}
 use Rattle.job.proofs.answers.put_pairs.Given as goal
 
-abbrev pub invariant-loop-k : goal.invariant-loop-k
-invariant-loop-k l =
-    (l.k ≤ l.count) × (l.i ≡ 2 * l.k) × Left l.initial.out l.at (pair_text l.count l.room) l.out l.end (pair_text (l.count - l.k) (drop l.i l.room))
-
-abbrev pub decreases-loop-k : goal.decreases-loop-k
-decreases-loop-k l = l.count - l.k
+abbrev pub invariant-loop-pair : goal.invariant-loop-pair
+invariant-loop-pair g l = record {
+  size_is : l.pair-iterator.size ≡ 2;
+  left : Left g.S.Sink.Takes l.initial.sink (pair_text l.count l.room) l.sink (pairs_of l.pair-iterator.rest.now);
+}

@@ -1,12 +1,8 @@
--- `job::tally::plus` meets its contract: `min` of the sum and the top, without passing it on the way. Assumes nothing.
-use native.Mathlib.Omega.{arith}
+-- `job::tally::plus` meets its contract: the sum that is held at the top is the lesser of the sum and the top. Assumes nothing.
+use Rattle.std.proofs.Common.{arith}
 use Rattle.model.specs.Job.{plus, tally_top}
 use Rattle.job.proofs.tally.plus.Goals as goal
 
-pub returns-then-a-b : goal.returns-then-a-b
+pub returns : goal.returns
 unfolding plus tally_top
-returns-then-a-b c = omega arith
-
-pub returns-else-a-b : goal.returns-else-a-b
-unfolding plus tally_top
-returns-else-a-b c = omega arith
+returns c = omega (arith, c.saturating_add.ensures)

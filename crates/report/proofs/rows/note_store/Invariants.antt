@@ -1,11 +1,11 @@
-use mathlib.Core.Path.{◌≡◌}
-use Prim.Native.Nat.{◌-◌}
-use lib.ListN.{length}
+use Prim.Native.Nat.{◌+◌, ◌-◌}
+use Rattle.model.specs.Model.{held}
+use Rattle.model.specs.Layout.{decode}
 use Rattle.report.proofs.CardsNoted.{Passing}
 use Rattle.report.proofs.rows.note_store.Given as goal
 
-abbrev pub invariant-loop-n : goal.invariant-loop-n
-invariant-loop-n l = (length l.rows ≡ length l.initial.rows) × Passing l.w l.cards l.initial.rows l.rows l.at l.n
+abbrev pub invariant-loop-next : goal.invariant-loop-next
+invariant-loop-next l = Passing l.w l.initial.cards l.initial.rows l.rows l.next l.cards
 
-abbrev pub decreases-loop-n : goal.decreases-loop-n
-decreases-loop-n l = l.held - l.n
+abbrev pub decreases-loop-next : goal.decreases-loop-next
+decreases-loop-next l = held (decode l.w) + l.initial.cards - l.cards

@@ -1,42 +1,44 @@
--- `report::runs::all_sound` meets its contract: the loop keeps `Testing`, and its measure is how many lengths are left.
+-- `report::runs::all_sound` meets its contract: the loop keeps `Testing`, and the scratch is clean before a store is tested, so what the test
+-- cleans of it stays as it was.
 use mathlib.Core.Path.{◌≡◌, sym, ap, ◌∙◌}
-use native.Mathlib.Omega.{arith}
-use lib.ListN.{length, get_or}
-use Rattle.report.specs.Runs.{sound_at}
-use Rattle.report.proofs.RunLaws.{testing_start, testing_end, testing_clean, testing_stop, testing_next}
-use Rattle.report.proofs.runs.all_sound.Goals.{After-sound_at}
+use lib.ListN.{take, get_or}
+use Rattle.model.specs.Shape.{need}
+use Rattle.model.specs.Layout.{shape_of, sound}
+use Rattle.report.specs.Runs.{Clean}
+use Rattle.report.proofs.RunLaws.{testing_start, testing_end, testing_clean, testing_short, testing_stop, testing_next}
+use Rattle.report.proofs.runs.all_sound.Goals.{In-Some, After-check}
 use Rattle.report.proofs.runs.all_sound.Goals as goal
 
-pub loop-i-init : goal.loop-i-init
-loop-i-init c = testing_start _ _ _ c.requires.0 c.requires.1
+pub loop-len-init : goal.loop-len-init
+loop-len-init c = testing_start _ _ _ c.requires.0 c.requires.1
 
-pub sound_at-requires : goal.sound_at-requires
-sound_at-requires c =
-    (c.loop-i.invariant.inside, rw c.length_at-len.ensures (testing_clean c.loop-i.invariant c.loop-i-test.true))
+pub returns-in_default : goal.returns-in_default
+returns-in_default c =
+    (testing_short c.loop-len.invariant c.loop-len-test.true c.in_default.ensures.cases, c.loop-len.invariant.kept)
 
-judged : (c : After-sound_at) → c.sound_at.result ≡ sound_at c.args.words.now c.loop-i.at (get_or c.args.lengths.now c.loop-i.i 0)
-judged c = c.sound_at.ensures.0 ∙ ap (sound_at _ _) c.length_at-len.ensures
+-- the store at hand
+at_hand : (c : In-Some) → c.in-Some.piece.now ≡ take (get_or c.args.lengths.now c.loop-len.len-index 0) c.loop-len.rest.now
+at_hand c = c.in-Some.ensures.cases.1
 
-pub returns-then-not-sound_at : goal.returns-then-not-sound_at
-returns-then-not-sound_at c =
-    let l = c.loop-i.invariant in
-    (testing_stop l c.loop-i-test.true (sym (judged (goal.at.returns-then-not-sound_at c).After-sound_at) ∙ c.if-not-sound_at.true), c.sound_at.ensures.1 ∙ l.kept)
+clean : (c : In-Some) → Clean (need (shape_of c.in-Some.piece.now)) c.loop-len.scratch
+clean c = rw (at_hand c) (testing_clean c.loop-len.invariant c.loop-len-test.true)
 
-pub loop-i-preserved : goal.loop-i-preserved
-loop-i-preserved c =
-    rw c.length_at-len.ensures (testing_next c.loop-i.invariant c.loop-i-test.true (sym (judged (goal.at.loop-i-preserved c).After-sound_at) ∙ c.if-not-sound_at.false) c.sound_at.ensures.1)
+pub check-requires : goal.check-requires
+check-requires c = (clean (goal.at.check-requires c).In-Some).long
 
-pub shape_of-scratch-then-not-sound_at : goal.shape_of-scratch-then-not-sound_at
-shape_of-scratch-then-not-sound_at c = ap length (returns-then-not-sound_at c).1
+pub returns-then-not-check : goal.returns-then-not-check
+returns-then-not-check c =
+    let at = goal.at.returns-then-not-check c in
+    let s = c.check.ensures in
+    let l = c.loop-len.invariant in
+    (testing_stop l c.loop-len-test.true (sym (ap sound (at_hand at.In-Some)) ∙ sym s.0 ∙ c.if-not-check.true), s.1 ∙ (clean at.In-Some).zero ∙ l.kept)
 
-pub overflow_add-at : goal.overflow_add-at
-overflow_add-at c = omega (arith, (loop-i-preserved c).inside)
-
-pub length_at-len-requires : goal.length_at-len-requires
-length_at-len-requires c = c.loop-i-test.true
-
-pub shape_of-scratch : goal.shape_of-scratch
-shape_of-scratch c = ap length c.loop-i.invariant.kept
+pub loop-len-preserved : goal.loop-len-preserved
+loop-len-preserved c =
+    let at = goal.at.loop-len-preserved c in
+    let s = c.check.ensures in
+    let given = c.in-Some.ensures.cases in
+    rw given.2 (testing_next c.loop-len.invariant c.loop-len-test.true given.0 (sym (ap sound (at_hand at.In-Some)) ∙ sym s.0 ∙ c.if-not-check.false) (s.1 ∙ (clean at.In-Some).zero))
 
 pub returns : goal.returns
-returns c = (testing_end c.loop-i.invariant c.loop-i-test.false, c.loop-i.invariant.kept)
+returns c = (c.is_empty.ensures ∙ testing_end c.loop-len.invariant c.loop-len-test.false, c.loop-len.invariant.kept)

@@ -1,9 +1,5 @@
-use Prim.Native.Nat.{◌-◌}
 use Rattle.report.proofs.RunLaws.{Needing}
 use Rattle.report.proofs.runs.need_of.Given as goal
 
-abbrev pub invariant-loop-i : goal.invariant-loop-i
-invariant-loop-i l = Needing l.words l.lengths l.most l.at l.i
-
-abbrev pub decreases-loop-i : goal.decreases-loop-i
-decreases-loop-i l = l.stores - l.i
+abbrev pub invariant-loop-len : goal.invariant-loop-len
+invariant-loop-len l = Needing l.words l.lengths l.len-items l.most l.rest l.len-index

@@ -1,42 +1,34 @@
--- `report::texts::put_totals` meets its contract: two lines of one number and the rate, each behind the one before. Assumes nothing.
-use mathlib.Core.List.{[], ◌∷◌, ◌++◌}
+-- `report::texts::put_totals` meets its contract: three texts, one behind another.
+use Rattle.std.proofs.Common.{[], ◌∷◌, ◌++◌}
 use Rattle.model.specs.Report.{numbers_line, rate_line, total_lines}
-use Rattle.text.proofs.Putting.{puts_then, puts_length, room_first, room_then}
+use Rattle.text.proofs.Sinking.{room_first, room_then, takes_then}
 use Rattle.report.proofs.texts.put_totals.Goals as goal
 
-pub put_line1-p-requires : goal.put_line1-p-requires
+pub put_line-requires : goal.put_line-requires
 unfolding total_lines
-put_line1-p-requires c =
+put_line-requires g c =
     let t = c.args.t in
-    room_first c.args.at (numbers_line (t.cards ∷ [])) (numbers_line (t.entries ∷ []) ++ rate_line t.cards t.entries) c.requires.1
+    room_first (numbers_line (t.cards ∷ [])) (numbers_line (t.entries ∷ []) ++ rate_line t.cards t.entries) c.requires.1
 
-pub put_line1-q-requires : goal.put_line1-q-requires
+pub put_line-requires-2 : goal.put_line-requires-2
 unfolding total_lines
-put_line1-q-requires c =
+put_line-requires-2 g c =
     let t = c.args.t in
-    let entries = numbers_line (t.entries ∷ []) in
-    let rate = rate_line t.cards t.entries in
-    room_first _ entries rate (room_then (numbers_line (t.cards ∷ [])) (entries ++ rate) c.put_line1-p.ensures c.requires.1)
+    room_first (numbers_line (t.entries ∷ [])) (rate_line t.cards t.entries)
+    (room_then g.met.S.Sink.laws (numbers_line (t.cards ∷ [])) (numbers_line (t.entries ∷ []) ++ rate_line t.cards t.entries) c.put_line.ensures c.requires.1)
 
 pub put_rate-requires : goal.put_rate-requires
 unfolding total_lines
-put_rate-requires c =
-    let t = c.args.t in
-    let entries = numbers_line (t.entries ∷ []) in
-    let rate = rate_line t.cards t.entries in (
+put_rate-requires g c =
+    let t = c.args.t in (
       c.requires.0,
-      room_then entries rate c.put_line1-q.ensures
-          (room_then (numbers_line (t.cards ∷ [])) (entries ++ rate) c.put_line1-p.ensures c.requires.1),
+      room_then g.met.S.Sink.laws (numbers_line (t.entries ∷ [])) (rate_line t.cards t.entries) c.put_line-2.ensures
+          (room_then g.met.S.Sink.laws (numbers_line (t.cards ∷ [])) (numbers_line (t.entries ∷ []) ++ rate_line t.cards t.entries) c.put_line.ensures c.requires.1),
     )
 
 pub returns : goal.returns
 unfolding total_lines
-returns c =
+returns g c =
     let t = c.args.t in
-    let entries = numbers_line (t.entries ∷ []) in
-    let rate = rate_line t.cards t.entries in
-    puts_then (numbers_line (t.cards ∷ [])) (entries ++ rate) c.put_line1-p.ensures
-    (puts_then entries rate c.put_line1-q.ensures c.put_rate.ensures)
-
-pub shape_of-out : goal.shape_of-out
-shape_of-out c = puts_length _ (returns c)
+    takes_then g.met.S.Sink.laws (numbers_line (t.cards ∷ [])) (numbers_line (t.entries ∷ []) ++ rate_line t.cards t.entries) c.put_line.ensures
+    (takes_then g.met.S.Sink.laws (numbers_line (t.entries ∷ [])) (rate_line t.cards t.entries) c.put_line-2.ensures c.put_rate.ensures)

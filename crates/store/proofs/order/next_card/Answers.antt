@@ -9,16 +9,16 @@ use Rattle.store.proofs.PlanLaws.{size_room}
 use Rattle.store.proofs.OrderLaws.{card_here, place_below, next_some, next_none}
 use Rattle.store.proofs.order.next_card.Goals as goal
 
-pub card_word-next-requires : goal.card_word-next-requires
-card_word-next-requires c =
+pub card_word-cell-requires : goal.card_word-cell-requires
+card_word-cell-requires c =
     let p = c.requires in
     let k = card_here _ p.0 p.1 p.2.n p.2.inside _ p.2.is in
     (p.1.sized, k.from_one, k.in_limit, word_in p.1.sized to_next (lit< tt))
 
-pub returns-then-next-ne0 : goal.returns-then-next-ne0
-returns-then-next-ne0 c =
+pub returns-then-cell-ne0 : goal.returns-then-cell-ne0
+returns-then-cell-ne0 c =
     let p = c.requires in
-    record { next_is = λ n l e. next_some p.0 p.1 l e c.card_word-next.ensures c.if-next-ne0.true }
+    record { next_is = λ n l e. next_some p.0 p.1 l e c.card_word-cell.ensures c.if-cell-ne0.true }
 
 pub overflow_add-at : goal.overflow_add-at
 overflow_add-at c =
@@ -28,7 +28,7 @@ overflow_add-at c =
 pub returns : goal.returns
 returns c =
     let p = c.requires in
-    record { next_is = λ n l e. c.from_bucket.ensures ∙ next_none p.0 p.1 l e c.card_word-next.ensures c.if-next-ne0.false }
+    record { next_is = λ n l e. c.from_bucket.ensures ∙ next_none p.0 p.1 l e c.card_word-cell.ensures c.if-cell-ne0.false }
 
 pub from_bucket-requires : goal.from_bucket-requires
 from_bucket-requires c = let p = c.requires in (p.0, p.1)

@@ -1,24 +1,24 @@
 -- `plans::plan_withdraw` meets its contract: it refuses where Show does, and where it does not, what it will scan stands beside Show's numbers.
-use mathlib.Core.Path.{sym, ◌∙◌}
+use mathlib.Core.Path.{◌≡◌, sym, ◌∙◌}
+use Rattle.std.proofs.lemmas.Result.{err_from_is_err_and}
 use Rattle.store.proofs.PlanLaws.{plans_header, withdraw_invalid, withdraw_refused, withdraw_accepted}
 use Rattle.store.proofs.plans.plan_withdraw.Goals as goal
 
 pub returns-then-not-valid_serial : goal.returns-then-not-valid_serial
 returns-then-not-valid_serial c =
-    withdraw_invalid _ _ _ c.refuse_early.ensures (sym c.valid_serial.ensures ∙ c.if-not-valid_serial.true) _
+    rw c.into.ensures (withdraw_invalid _ _ _ (sym c.valid_serial.ensures ∙ c.if-not-valid_serial.true) _)
 
-pub plan_pairs-t-requires : goal.plan_pairs-t-requires
-plan_pairs-t-requires c =
+pub plan_pairs-requires : goal.plan_pairs-requires
+plan_pairs-requires c =
     (c.requires, sym c.valid_serial.ensures ∙ c.if-not-valid_serial.false)
 
-pub returns-then-t-ne0 : goal.returns-then-t-ne0
-returns-then-t-ne0 c =
-    withdraw_refused _ c.requires _ _ _ _ c.plan_pairs-t.ensures c.if-t-ne0.true
+pub returns-in_err-plan : goal.returns-in_err-plan
+returns-in_err-plan c =
+    let (y, e, q) = err_from_is_err_and {Q = λ y. y ≡ c.in_err-plan.field-0.0} c.from_residual.result c.from_residual.ensures.1 in
+    rw (e, q) (withdraw_refused _ c.requires _ _ _ _ c.in_err-plan.ensures)
 
 pub shrink_scan-scanned-requires : goal.shrink_scan-scanned-requires
-shrink_scan-scanned-requires c =
-    (c.requires, plans_header c.plan_pairs-t.ensures)
+shrink_scan-scanned-requires c = (c.requires, plans_header c.in_ok-plan.ensures)
 
 pub returns : goal.returns
-returns c =
-    withdraw_accepted _ c.requires _ _ _ _ c.plan_pairs-t.ensures c.if-t-ne0.false _ c.shrink_scan-scanned.ensures
+returns c = withdraw_accepted _ c.requires _ _ _ _ c.in_ok-plan.ensures _ c.shrink_scan-scanned.ensures

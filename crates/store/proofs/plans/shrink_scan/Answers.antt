@@ -17,12 +17,12 @@ overflow_add-size c = let p = c.requires in omega (arith, (size_room p.0 p.1).1,
 pub returns-then-not-must_contract : goal.returns-then-not-must_contract
 returns-then-not-must_contract c =
     shrink_none c.requires.0 c.requires.1 c.args.b
-    (rw (← c.word-n.ensures, ← c.less.ensures) (sym c.must_contract.ensures ∙ c.if-not-must_contract.true))
+    (rw (← c.word-n.ensures, ← c.saturating_sub.ensures) (sym c.must_contract.ensures ∙ c.if-not-must_contract.true))
 
 -- past the test the last bucket is joined
 joins : (c : Else-not-must_contract) → contracts c.args.h.lower (get_or c.args.w.now held_at 0 - 1) (c.args.h.maxp + c.args.h.p) ≡ true
 joins c =
-    rw (← c.word-n.ensures, ← c.less.ensures) (sym c.must_contract.ensures ∙ c.if-not-must_contract.false)
+    rw (← c.word-n.ensures, ← c.saturating_sub.ensures) (sym c.must_contract.ensures ∙ c.if-not-must_contract.false)
 
 pub overflow_sub-size : goal.overflow_sub-size
 overflow_sub-size c = let p = c.requires in omega (arith, (size_room p.0 p.1).0)
@@ -35,7 +35,7 @@ overflow_sub-size-2 c = let p = c.requires in omega (arith, (size_room p.0 p.1).
 
 pub returns-then-b-size : goal.returns-then-b-size
 returns-then-b-size c =
-    c.less-then-b-size.ensures ∙ rw c.bucket_len-k.ensures
+    c.saturating_sub-then-b-size.ensures ∙ rw c.bucket_len-k.ensures
     (rw (eq-eqb c.args.b (c.args.h.maxp + c.args.h.p - 1) c.if-b-size.true) at (shrink_some c.requires.0 c.requires.1 c.args.b (joins (goal.at.returns-then-b-size c).Else-not-must_contract)))
 
 pub returns-else-b-size : goal.returns-else-b-size

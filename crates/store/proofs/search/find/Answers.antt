@@ -6,12 +6,12 @@ use Rattle.model.specs.Model.{address_in}
 use Rattle.model.specs.Layout.{decode}
 use Rattle.reads.proofs.SerialLaws.{valid_short}
 use Rattle.store.proofs.FindLaws.{sound_home, home_below, home_ends, home_finds}
-use Rattle.store.proofs.search.find.Goals.{After-reader_address-b}
+use Rattle.store.proofs.search.find.Goals.{After-reader_address-bucket}
 use Rattle.store.proofs.search.find.Goals as goal
 
-home : (c : After-reader_address-b) → c.reader_address-b.result ≡ address_in (decode c.args.w.now) (take c.args.len c.args.serial)
+home : (c : After-reader_address-bucket) → c.reader_address-bucket.result ≡ address_in (decode c.args.w.now) (take c.args.len c.args.serial)
 home c =
-    sound_home _ c.requires.0 c.header_of-h.ensures c.args.serial c.args.len c.serial_code-code.ensures c.reader_address-b.ensures
+    sound_home _ c.requires.0 c.header_of-h.ensures c.args.serial c.args.len c.serial_code-code.ensures c.reader_address-bucket.ensures
 
 pub bucket_word-first-requires : goal.bucket_word-first-requires
 bucket_word-first-requires c =
@@ -20,13 +20,13 @@ bucket_word-first-requires c =
 pub overflow_cast-len : goal.overflow_cast-len
 overflow_cast-len c = omega (arith, valid_short c.args.serial c.args.len c.requires.1)
 
-pub search-r-requires : goal.search-r-requires
-search-r-requires c =
+pub search-requires : goal.search-requires
+search-requires c =
     let q = c.header_of-h.ensures in
-    (q.sized, rw c.bucket_word-first.ensures (home_ends _ c.requires.0 q c.args.serial c.args.len (home (goal.at.search-r-requires c).After-reader_address-b)))
+    (q.sized, rw c.bucket_word-first.ensures (home_ends _ c.requires.0 q c.args.serial c.args.len (home (goal.at.search-requires c).After-reader_address-bucket)))
 
 pub returns : goal.returns
 returns c =
     let q = c.header_of-h.ensures in
-    home_finds _ c.requires.0 q c.args.serial c.args.len (home (goal.at.returns c).After-reader_address-b) c.requires.1 _
-    (rw (← c.bucket_word-first.ensures, ← c.pack-key.ensures) c.search-r.ensures)
+    home_finds _ c.requires.0 q c.args.serial c.args.len (home (goal.at.returns c).After-reader_address-bucket) c.requires.1 _
+    (rw (← c.bucket_word-first.ensures, ← c.pack-key.ensures) c.search.ensures)

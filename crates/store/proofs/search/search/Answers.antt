@@ -15,8 +15,8 @@ loop-i-init c = search_start _ _ _ _ c.requires.1
 inside : (c : In-loop-i) → (1 ≤ c.loop-i.i) × (c.loop-i.i ≤ c.args.h.cards)
 inside c = (along_from c.loop-i.invariant c.loop-i-test.true, along_to c.loop-i.invariant c.loop-i-test.true)
 
-pub overflow_add-n : goal.overflow_add-n
-overflow_add-n c = omega (arith, along_below c.loop-i.invariant c.loop-i-test.true)
+pub overflow_add-place : goal.overflow_add-place
+overflow_add-place c = omega (arith, along_below c.loop-i.invariant c.loop-i-test.true)
 
 pub is_sought-requires : goal.is_sought-requires
 is_sought-requires c = (c.requires.0, (inside c).0, (inside c).1, c.last_word-last.ensures.0, refl)

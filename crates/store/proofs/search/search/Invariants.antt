@@ -9,7 +9,7 @@ use Rattle.store.proofs.search.search.Given as goal
 
 abbrev pub invariant-loop-i : goal.invariant-loop-i
 invariant-loop-i t =
-    Along t.h.cards (next_card (shape_in t.h) t.w) t.first (searched (shape_in t.h) t.w t.first t.len t.key) t.i t.n (λ l. search_in (shape_in t.h) t.w t.len t.key l t.n t.prev)
+    Along t.h.cards (next_card (shape_in t.h) t.w) t.first (searched (shape_in t.h) t.w t.first t.len t.key) t.i t.place (λ l. search_in (shape_in t.h) t.w t.len t.key l t.place t.prev)
 
 abbrev pub decreases-loop-i : goal.decreases-loop-i
-decreases-loop-i l = length (follow l.h.cards (next_card (shape_in l.h) l.w) l.first) - l.n
+decreases-loop-i l = length (follow l.h.cards (next_card (shape_in l.h) l.w) l.first) - l.place

@@ -3,31 +3,28 @@
 use mathlib.Core.Path.{refl}
 use Rattle.model.specs.Layout.{decode}
 use Rattle.model.specs.Calls.{withdraw_step}
-use Rattle.store.specs.Plans.{Plans}
+use Rattle.store.specs.Plans.{Planned}
 use Rattle.store.proofs.MakeLaws.{withdraw_holds, withdraw_room}
 use Rattle.store.proofs.CallLaws.{withdraw_refused, plan_done}
-use Rattle.store.proofs.withdraws.withdraw_in.Goals.{After-plan_withdraw-t}
+use Rattle.store.proofs.withdraws.withdraw_in.Goals.{In-Ok}
 use Rattle.store.proofs.withdraws.withdraw_in.Goals as goal
 
--- the plan is one for the room that was given
-plan : (c : After-plan_withdraw-t) → Plans (withdraw_step (decode c.args.w.now) c.args.serial c.args.len c.args.room.now).answer
-    c.args.w.now c.args.serial c.args.len c.plan_withdraw-t.result
-plan c = c.plan_withdraw-t.ensures.with_room c.args.room.now refl
+pub returns-in-Err : goal.returns-in-Err
+returns-in-Err c = withdraw_refused _ c.requires _ _ _ (c.in-Err.ensures.with_room c.args.room.now refl)
 
-pub returns-then-t-ne0 : goal.returns-then-t-ne0
-returns-then-t-ne0 c =
-    rw c.answer_of.ensures (withdraw_refused _ c.requires _ _ _ (plan (goal.at.returns-then-t-ne0 c).After-plan_withdraw-t) c.if-t-ne0.true)
+-- the plan is one for the room that was given
+plan : (c : In-Ok) → Planned (withdraw_step (decode c.args.w.now) c.args.serial c.args.len c.args.room.now).answer
+    c.args.w.now c.args.serial c.args.len c.in-Ok.plan
+plan c = c.in-Ok.ensures.with_room c.args.room.now refl
 
 pub put_history-requires : goal.put_history-requires
-put_history-requires c =
-    (c.requires, withdraw_holds _ c.requires _ _ _ (plan (goal.at.put_history-requires c).After-plan_withdraw-t) c.if-t-ne0.false)
+put_history-requires c = (c.requires, withdraw_holds _ c.requires _ _ _ (plan (goal.at.put_history-requires c).In-Ok))
 
 pub make_withdraw-requires : goal.make_withdraw-requires
 make_withdraw-requires c =
-    (c.requires, record { bytes = c.args.serial; n = c.args.len; room = c.args.room.now; plan = plan (goal.at.make_withdraw-requires c).After-plan_withdraw-t; done = c.if-t-ne0.false })
+    (c.requires, record { bytes = c.args.serial; n = c.args.len; room = c.args.room.now; plan = plan (goal.at.make_withdraw-requires c).In-Ok })
 
-pub returns : goal.returns
-returns c =
-    rw c.answer_of-2.ensures
-    (plan_done (plan (goal.at.returns c).After-plan_withdraw-t) (c.make_withdraw.ensures.leaves c.args.serial c.args.len c.args.room.now (plan (goal.at.returns c).After-plan_withdraw-t))
-    (withdraw_room _ c.requires _ _ _ (plan (goal.at.returns c).After-plan_withdraw-t) c.if-t-ne0.false c.put_history.ensures))
+pub returns-in-Ok : goal.returns-in-Ok
+returns-in-Ok c =
+    let p = plan (goal.at.returns-in-Ok c).In-Ok in
+    plan_done p (c.make_withdraw.ensures.leaves c.args.serial c.args.len c.args.room.now p) (withdraw_room _ c.requires _ _ _ p c.put_history.ensures)
