@@ -1,205 +1,135 @@
-// Files: read, made, written, put in the place of others. Each failure is said, and what to do then: `job` where that is to send a job again.
+// Files: read, made, written, put in the place of others.
 //
 // The library opens a name that is text, and no other; one that is not UTF-8 fails as a name that the system refused.
+ghost use Rattle.std.specs.Prelude.{IfOk, ◌≡◌};
 ghost use Rattle.desk.specs.Counts.{IsPrefixLen};
 
-use crate::tell;
+use crate::tell::{Action, Complaint, Failure};
+use crate::{Names, tell};
 use disk::names;
 use std::fs::{File, OpenOptions};
 use std::io::{Error, ErrorKind, Read, Write};
 use std::{fs, io};
 
-// The bytes that were read, and whether all were; where not, that is said.
-#[derive(Clone, Copy)]
-pub struct Got {
-    pub len: usize,
-    pub ok: bool,
-}
-
-// The bytes that were read, and why not all were.
-#[derive(Clone, Copy)]
-pub struct Input {
-    pub len: usize,
-    pub error: Option<Error>,
-}
-
-// Reads once. A failed read is not the end, and an interrupted one counts as failed.
-fn read_some<R: Read>(input: &mut R, buf: &mut [u8]) -> Input
-    ensures { IsPrefixLen result.len buf.new }
+// Reads to the end of the input or of the room: how many bytes. A failed read is not the end, and an interrupted one counts as failed.
+pub fn read_all<R: Read>(input: &mut R, buf: &mut [u8]) -> io::Result<usize>
+    ensures { IfOk result (λ len. IsPrefixLen len buf.new) }
 {
-    match input.read(buf) {
-        Ok(len) => Input { len, error: None },
-        Err(e) => Input {
-            len: 0,
-            error: Some(e),
-        },
-    }
-}
-
-// Reads to the end of the input or of the room.
-pub fn read_all<R: Read>(input: &mut R, buf: &mut [u8]) -> Input
-    ensures { IsPrefixLen result.len buf.new }
-{
-    let mut len: usize = 0;
+    let mut len = 0;
+    // Kept: what may not change, that an interrupted read fails; std's `read_to_end` would read again, and wants a Vec.
     while len < buf.len() {
-        let got = read_some(input, &mut buf[len..]);
-        if got.len == 0 {
-            return Input {
-                len,
-                error: got.error,
-            };
+        match input.read(&mut buf[len..])? {
+            0 => break,
+            more => len += more,
         }
-        len += got.len;
     }
-    Input { len, error: None }
+    Ok(len)
 }
 
 // Writes all of the bytes, or stops at the first write that takes nothing or fails, as one that is interrupted.
 pub fn write_all<W: Write>(output: &mut W, bytes: &[u8]) -> io::Result<()> {
-    let mut done: usize = 0;
-    while done < bytes.len() {
-        match output.write(&bytes[done..]) {
-            Ok(0) => return Err(Error::from(ErrorKind::WriteZero)),
-            Ok(n) => done += n,
-            Err(e) => return Err(e),
+    let mut rest = bytes;
+    // Kept: what may not change, that an interrupted write fails; std's `write_all` would write again.
+    while !rest.is_empty() {
+        match output.write(rest)? {
+            0 => return Err(Error::from(ErrorKind::WriteZero)),
+            taken => rest = &rest[taken..],
         }
     }
     Ok(())
 }
 
-// Of a name that is no text.
-fn no_text() -> Error {
-    Error::from(ErrorKind::InvalidFilename)
+// What was tried on a file, with what failed.
+pub fn tried<'a, T>(action: Action, name: &'a [u8], done: io::Result<T>) -> Result<T, Failure<'a>>
+    ensures { IfOk result (λ value. done ≡ Ok value) }
+{
+    done.map_err(|error| Failure::new(action, name, error))
+}
+
+// A name as text.
+fn text_of(path: &[u8]) -> io::Result<&str> {
+    match str::from_utf8(path) {
+        Ok(text) => Ok(text),
+        Err(_) => Err(Error::from(ErrorKind::InvalidFilename)),
+    }
 }
 
 // Opens a file, or a folder, to be read.
 pub fn open_read(rt: &HostRuntime, path: &[u8]) -> io::Result<File> {
-    match str::from_utf8(path) {
-        Ok(path) => File::open(rt, path),
-        Err(_) => Err(no_text()),
-    }
+    File::open(rt, text_of(path)?)
 }
 
 // Makes a file that is not there, to be written.
 fn create(rt: &HostRuntime, path: &[u8]) -> io::Result<File> {
-    match str::from_utf8(path) {
-        Ok(path) => OpenOptions::new()
-            .write(true)
-            .create_new(true)
-            .open(rt, path),
-        Err(_) => Err(no_text()),
-    }
+    OpenOptions::new()
+        .write(true)
+        .create_new(true)
+        .open(rt, text_of(path)?)
 }
 
 // Makes a file to be written, in the place of what is there.
 pub fn open_overwrite(rt: &HostRuntime, path: &[u8]) -> io::Result<File> {
-    match str::from_utf8(path) {
-        Ok(path) => File::create(rt, path),
-        Err(_) => Err(no_text()),
-    }
+    File::create(rt, text_of(path)?)
 }
 
 // Removes a file, if it is there.
 pub fn unlink(rt: &HostRuntime, path: &[u8]) {
-    if let Ok(path) = str::from_utf8(path) {
+    if let Ok(path) = text_of(path) {
         let _ = fs::remove_file(rt, path);
     }
 }
 
 // A file takes another's name.
 fn rename(rt: &HostRuntime, from: &[u8], to: &[u8]) -> io::Result<()> {
-    match (str::from_utf8(from), str::from_utf8(to)) {
-        (Ok(from), Ok(to)) => fs::rename(rt, from, to),
-        _ => Err(no_text()),
-    }
+    fs::rename(rt, text_of(from)?, text_of(to)?)
 }
 
 // The bytes of a file that is open, which is closed.
-fn read_open(rt: &HostRuntime, mut open: File, path: &[u8], file: &mut [u8], job: bool) -> Got
-    ensures { IsPrefixLen result.len file.new }
+fn read_open<'a>(mut open: File, path: &'a [u8], file: &mut [u8]) -> Result<usize, Failure<'a>>
+    ensures { IfOk result (λ len. IsPrefixLen len file.new) }
 {
-    let got = read_all(&mut open, file);
-    let len = got.len;
-    match got.error {
-        None => Got { len, ok: true },
-        Some(e) => {
-            tell::failed(rt, b"cannot read ", path, e, job);
-            Got { len, ok: false }
-        }
-    }
+    tried(Action::Read, path, read_all(&mut open, file))
 }
 
 // The bytes of a file.
-pub fn load(rt: &HostRuntime, path: &[u8], file: &mut [u8], job: bool) -> Got
-    ensures { IsPrefixLen result.len file.new }
+pub fn load<'a>(rt: &HostRuntime, path: &'a [u8], file: &mut [u8]) -> Result<usize, Failure<'a>>
+    ensures { IfOk result (λ len. IsPrefixLen len file.new) }
 {
-    match open_read(rt, path) {
-        Ok(open) => read_open(rt, open, path, file, job),
-        Err(e) => {
-            tell::failed(rt, b"cannot open ", path, e, job);
-            Got { len: 0, ok: false }
-        }
-    }
+    let open = tried(Action::Open, path, open_read(rt, path))?;
+    read_open(open, path, file)
 }
 
 // The bytes of the saved answers beside a file.
-pub fn load_last(rt: &HostRuntime, path: &[u8], last: &[u8], bytes: &mut [u8]) -> Got
-    ensures { IsPrefixLen result.len bytes.new }
+pub fn load_last<'a>(
+    rt: &HostRuntime,
+    names: Names<'a>,
+    bytes: &mut [u8],
+) -> Result<usize, Complaint<'a>>
+    ensures { IfOk result (λ len. IsPrefixLen len bytes.new) }
 {
-    match open_read(rt, last) {
-        Ok(open) => read_open(rt, open, last, bytes, false),
-        Err(e) => {
-            if e.kind() == ErrorKind::NotFound {
-                tell::say(rt, b"desk: there are no saved answers for ");
-                tell::say(rt, path);
-                tell::say(rt, b"\n");
-            } else {
-                tell::failed(rt, b"cannot open ", last, e, false);
-            }
-            Got { len: 0, ok: false }
-        }
+    match open_read(rt, names.last) {
+        Ok(open) => Ok(read_open(open, names.last, bytes)?),
+        Err(e) if e.kind() == ErrorKind::NotFound => Err(Complaint::NoAnswers(names.path)),
+        Err(e) => Err(Failure::new(Action::Open, names.last, e).into()),
     }
 }
 
 // The folder of a file, synced, so that a new name in it lasts.
 pub fn sync_folder(rt: &HostRuntime, path: &[u8]) -> io::Result<()> {
-    let end = names::folder_end(path);
-    let opened = if end == 0 {
-        open_read(rt, b".")
-    } else {
-        open_read(rt, &path[..end])
+    let folder = match names::folder_end(path) {
+        0 => open_read(rt, b"."),
+        end => open_read(rt, &path[..end]),
     };
-    match opened {
-        Ok(folder) => folder.sync_all(),
-        Err(e) => Err(e),
-    }
+    folder?.sync_all()
 }
 
 // FILE.new, made for this desk alone.
-pub fn lock(rt: &HostRuntime, path: &[u8], name: &[u8], job: bool) -> Option<File> {
-    match create(rt, name) {
-        Ok(held) => Some(held),
-        Err(e) => {
-            if e.kind() == ErrorKind::AlreadyExists {
-                taken(rt, path, name);
-            } else {
-                tell::failed(rt, b"cannot make ", name, e, job);
-            }
-            None
-        }
+pub fn lock<'a>(rt: &HostRuntime, names: Names<'a>) -> Result<File, Complaint<'a>> {
+    match create(rt, names.new) {
+        Ok(held) => Ok(held),
+        Err(e) if e.kind() == ErrorKind::AlreadyExists => Err(Complaint::Taken(names)),
+        Err(e) => Err(Failure::new(Action::Make, names.new, e).into()),
     }
-}
-
-fn taken(rt: &HostRuntime, path: &[u8], name: &[u8]) {
-    tell::told(
-        rt,
-        name,
-        b" is there: another desk is at work, or one was cut off. Nothing was done. If none is at work, remove ",
-    );
-    tell::say(rt, name);
-    tell::say(rt, b"; desk last ");
-    tell::say(rt, path);
-    tell::say(rt, b" shows what was answered last\n");
 }
 
 // FILE.new given up.
@@ -208,66 +138,33 @@ pub fn unlock(rt: &HostRuntime, held: File, name: &[u8]) {
     unlink(rt, name);
 }
 
-// Writes some bytes.
-pub fn put(rt: &HostRuntime, file: &mut File, name: &[u8], bytes: &[u8], job: bool) -> bool {
-    match write_all(file, bytes) {
-        Ok(()) => true,
-        Err(e) => {
-            tell::failed(rt, b"cannot write ", name, e, job);
-            false
-        }
-    }
+// Bytes behind what is written.
+pub fn put<'a>(file: &mut File, name: &'a [u8], bytes: &[u8]) -> Result<(), Failure<'a>> {
+    tried(Action::Write, name, write_all(file, bytes))
 }
 
 // A file that is written is synced and closed.
-pub fn finish(rt: &HostRuntime, file: File, name: &[u8], job: bool) -> bool {
-    match file.sync_all() {
-        Ok(()) => true,
-        Err(e) => {
-            tell::failed(rt, b"cannot sync ", name, e, job);
-            false
-        }
-    }
-}
-
-// The bytes into FILE.new, whole and synced, which is closed.
-fn fill(rt: &HostRuntime, mut held: File, name: &[u8], bytes: &[u8], job: bool) -> bool {
-    if !put(rt, &mut held, name, bytes, job) {
-        return false;
-    }
-    finish(rt, held, name, job)
+pub fn finish<'a>(file: File, name: &'a [u8]) -> Result<(), Failure<'a>> {
+    tried(Action::Sync, name, file.sync_all())
 }
 
 // A file takes another's name.
-pub fn place(rt: &HostRuntime, name: &[u8], path: &[u8], job: bool) -> bool {
-    match rename(rt, name, path) {
-        Ok(()) => true,
-        Err(e) => {
-            tell::failed(rt, b"cannot rename ", name, e, job);
-            false
-        }
-    }
+pub fn place<'a>(rt: &HostRuntime, name: &'a [u8], path: &[u8]) -> Result<(), Failure<'a>> {
+    tried(Action::Rename, name, rename(rt, name, path))
 }
 
-// The bytes into FILE.new, and FILE.new to FILE. Where that fails FILE is as it was and FILE.new is gone.
-pub fn save(
+// The bytes into FILE.new, which is whole, synced and closed then, and FILE.new to FILE. Where that fails FILE is as it was.
+pub fn save<'a>(
     rt: &HostRuntime,
-    held: File,
-    name: &[u8],
-    path: &[u8],
+    mut held: File,
+    names: Names<'a>,
     bytes: &[u8],
-    job: bool,
-) -> bool {
-    if !fill(rt, held, name, bytes, job) {
-        unlink(rt, name);
-        return false;
+) -> Result<(), Failure<'a>> {
+    put(&mut held, names.new, bytes)?;
+    finish(held, names.new)?;
+    place(rt, names.new, names.path)?;
+    if let Err(e) = sync_folder(rt, names.path) {
+        tell::warn(rt, Failure::new(Action::SyncFolder, names.path, e));
     }
-    if !place(rt, name, path, job) {
-        unlink(rt, name);
-        return false;
-    }
-    if let Err(e) = sync_folder(rt, path) {
-        tell::done_but(rt, b"cannot sync the folder of ", path, e);
-    }
-    true
+    Ok(())
 }

@@ -1,134 +1,120 @@
 // desk check FILE, desk report FILE.., desk last FILE: files are only read.
-ghost use Rattle.std.specs.Prelude.{◌≡◌, ◌≤◌, length};
+ghost use Rattle.std.specs.Prelude.{◌≡◌, ◌≤◌, length, IfOk, IfSome};
 ghost use Rattle.disk.specs.Desk.{most_bytes};
 
-use crate::{argument, files, tell};
+use crate::files::tried;
+use crate::tell::{Action, Complaint, Failure, Remedy};
+use crate::{Names, argument, files};
 use disk::{lasts, looks, names, runs};
 
-// Writes what was asked for.
-fn show(rt: &HostRuntime, text: &[u8], path: &[u8]) {
-    if let Err(e) = files::write_all(&mut rt.stdout(), text) {
-        tell::failed(rt, b"cannot write what was asked of ", path, e, false);
-    }
+// Writes what was asked of a file.
+fn show<'a>(rt: &HostRuntime, text: &[u8], path: &'a [u8]) -> Result<(), Failure<'a>> {
+    tried(
+        Action::WriteAsked,
+        path,
+        files::write_all(&mut rt.stdout(), text),
+    )
 }
 
-// desk check FILE
-pub fn run_check(rt: &HostRuntime, path: &[u8]) {
-    let mut file = disk::file_room();
-    let got = files::load(rt, path, &mut file, false);
-    let len = got.len;
-    if !got.ok {
-        return;
-    }
+// desk check FILE. That the file is no store is said even where the text can't be written.
+pub fn run_check<'a>(rt: &HostRuntime, path: &'a [u8]) -> Result<(), Complaint<'a>> {
+    let mut file: [u8; disk::FILE] = disk::room();
+    let len = files::load(rt, path, &mut file)?;
     let mut text = [0u8; looks::TEXT];
-    let r = looks::look(&file[..len], &mut text);
-    let n = r.len;
-    show(rt, &text[..n], path);
-    if r.number != 0 {
-        tell::no_store(rt, path, len);
+    let looked = looks::look(&file[..len], &mut text);
+    let shown = show(rt, &text[..looked.len], path);
+    if looked.sound {
+        return Ok(shown?);
     }
+    if let Err(failure) = shown {
+        Complaint::Failed(failure).say(rt, Remedy::TryAgain);
+    }
+    Err(Complaint::no_store(path, len))
 }
 
 // The saved answers, where they belong to the file.
-fn show_last(rt: &HostRuntime, path: &[u8], file: &[u8], last: &[u8]) {
+fn show_last<'a>(
+    rt: &HostRuntime,
+    path: &'a [u8],
+    file: &[u8],
+    last: &[u8],
+) -> Result<(), Complaint<'a>> {
     if !lasts::belongs(file, last) {
-        tell::say(rt, b"desk: the saved answers are not those of ");
-        tell::say(rt, path);
-        tell::say(
-            rt,
-            b" as it stands: the job they belong to was not saved, or ",
-        );
-        tell::say(rt, path);
-        tell::say(rt, b" was changed otherwise\n");
-        return;
+        return Err(Complaint::OtherAnswers(path));
     }
     let start = lasts::answers_at(file, last);
-    show(rt, &last[start..], path);
+    show(rt, &last[start..], path)?;
+    Ok(())
 }
 
-// The saved answers in FILE.last, against the file's bytes.
-fn compare_last(rt: &HostRuntime, path: &[u8], file: &[u8], name: &[u8]) {
-    let mut last = lasts::room();
-    let got = files::load_last(rt, path, name, &mut last);
-    let len = got.len;
-    if got.ok {
-        show_last(rt, path, file, &last[..len]);
+// desk last FILE: the saved answers in FILE.last, against the file's bytes.
+pub fn run_last<'a>(rt: &HostRuntime, names: Names<'a>) -> Result<(), Complaint<'a>> {
+    let mut file: [u8; disk::FILE] = disk::room();
+    let len = files::load(rt, names.path, &mut file)?;
+    let mut last: [u8; lasts::ROOM] = disk::room();
+    let last_len = files::load_last(rt, names, &mut last)?;
+    show_last(rt, names.path, &file[..len], &last[..last_len])
+}
+
+// A file of a sound store: its length.
+fn load_sound<'a>(rt: &HostRuntime, path: &'a [u8], room: &mut [u8]) -> Result<usize, Complaint<'a>>
+    ensures { IfOk result (λ len. (len ≤ length room.new) × (len ≤ most_bytes)) }
+{
+    let len = files::load(rt, path, room)?;
+    let mut text = [0u8; looks::TEXT];
+    if !looks::look(&room[..len], &mut text).sound {
+        return Err(Complaint::no_store(path, len));
     }
+    Ok(len)
 }
 
-// desk last FILE, whose saved answers have this name
-pub fn run_last(rt: &HostRuntime, path: &[u8], name: &[u8]) {
-    let mut file = disk::file_room();
-    let got = files::load(rt, path, &mut file, false);
-    let len = got.len;
-    if !got.ok {
-        return;
-    }
-    compare_last(rt, path, &file[..len], name);
-}
-
-// One more file of a report, behind the others: its bytes are a sound store's, or it is said that they are not.
-fn add_file(rt: &HostRuntime, i: usize, room: &mut [u8]) -> files::Got
-    ensures { (result.len ≤ length room.new) × (result.len ≤ most_bytes) }
+// One more file of a report, behind the others: its length, or none where it is said why not, since its name is known here alone.
+fn add_file(rt: &HostRuntime, i: usize, room: &mut [u8]) -> Option<usize>
+    ensures { IfSome result (λ len. (len ≤ length room.new) × (len ≤ most_bytes)) }
 {
     let mut path = [0u8; names::PATH];
     let n = argument(rt, i, &mut path);
-    let got = files::load(rt, &path[..n], room, false);
-    let len = got.len;
-    if !got.ok {
-        return files::Got { len: 0, ok: false };
+    match load_sound(rt, &path[..n], room) {
+        Ok(len) => Some(len),
+        Err(complaint) => {
+            complaint.say(rt, Remedy::TryAgain);
+            None
+        }
     }
-    let mut text = [0u8; looks::TEXT];
-    let r = looks::look(&room[..len], &mut text);
-    if r.number != 0 {
-        tell::no_store(rt, &path[..n], len);
-        return files::Got { len: 0, ok: false };
-    }
-    files::Got { len, ok: true }
 }
 
 // All files of a report, one behind another, and their sizes: how many bytes they have.
-fn gather(rt: &HostRuntime, room: &mut [u8], sizes: &mut [u32]) -> files::Got
-    ensures { (result.len ≤ length room.new) × (length sizes.new ≡ length sizes.old) }
+fn gather(rt: &HostRuntime, room: &mut [u8], sizes: &mut [u32]) -> Option<usize>
+    ensures { IfSome result (λ len. len ≤ length room.new) }
 {
-    let mut i: usize = 0;
-    let mut at: usize = 0;
-    while i < sizes.len() {
-        let got = add_file(rt, i + 2, &mut room[at..]);
-        if !got.ok {
-            return files::Got { len: 0, ok: false };
-        }
-        sizes[i] = got.len as u32;
-        at += got.len;
-        i += 1;
+    let mut at = 0;
+    for (i, size) in sizes.iter_mut().enumerate() {
+        let len = add_file(rt, i + 2, &mut room[at..])?;
+        *size = len as u32;
+        at += len;
     }
-    files::Got { len: at, ok: true }
+    Some(at)
 }
 
 // The report over these files.
-fn report(rt: &HostRuntime, bytes: &[u8], sizes: &[u32]) {
-    let mut out = runs::output();
-    let r = runs::report_files(bytes, sizes, &mut out);
-    let n = r.count as usize;
-    if r.number != 0 {
-        tell::say(
-            rt,
-            b"desk: the report could not be made. Nothing was done\n",
-        );
-        return;
+fn report(rt: &HostRuntime, bytes: &[u8], sizes: &[u32]) -> Result<(), Complaint<'static>> {
+    let mut out: [u8; runs::TEXT] = disk::room();
+    let wrote = runs::report_files(bytes, sizes, &mut out);
+    if wrote.number != 0 {
+        return Err(Complaint::NoReport);
     }
-    show(rt, &out[..n], b"the files");
+    show(rt, &out[..wrote.count as usize], b"the files")?;
+    Ok(())
 }
 
 // desk report FILE.., so many of them, one to eight
-pub fn run_report(rt: &HostRuntime, count: usize)
+pub fn run_report(rt: &HostRuntime, count: usize) -> Result<(), Complaint<'static>>
     requires { count ≤ 8 }
 {
-    let mut room = runs::files_room();
+    let mut room: [u8; runs::ROOM] = disk::room();
     let mut sizes = [0u32; runs::FILES];
-    let got = gather(rt, &mut room, &mut sizes[..count]);
-    let len = got.len;
-    if got.ok {
-        report(rt, &room[..len], &sizes[..count]);
+    match gather(rt, &mut room, &mut sizes[..count]) {
+        Some(len) => report(rt, &room[..len], &sizes[..count]),
+        None => Ok(()),
     }
 }

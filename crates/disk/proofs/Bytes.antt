@@ -1,67 +1,71 @@
--- Bytes and words, one word at a time: what the loops of `words` keep. And both ways round: the bytes of words are read back as these words
--- (`words_back`), and the words of whole bytes are written back as these bytes (`bytes_back`).
-use Prim.Native.Nat.{ℕ, suc, ◌+◌, ◌*◌, ◌/◌, ◌%◌, ◌-◌, ◌≤◌, ◌<◌}
-use mathlib.Core.Path.{◌≡◌, refl, sym, ap, ◌∙◌}
-use mathlib.Core.Bool.{true, false}
-use mathlib.Core.List.{List, [], ◌∷◌, ◌++◌, append_assoc, append-nil}
+-- Bytes and words. What `u32::from_le_bytes` reads of each chunk of four bytes are the words (`words_are`), and words are others than those of the chunks
+-- where one differs (`differs_are`); one word more is written behind the others (`write_more`, `write_end`). And both ways round: the bytes of words are read
+-- back as these words (`words_back`), and the words of whole bytes are written back as these bytes (`bytes_back`).
+use Prim.Native.Nat.{ℕ, zero, suc, ◌+◌, ◌*◌, ◌/◌, ◌%◌, ◌-◌, ◌≤◌, ◌<◌}
+use mathlib.Core.Path.{◌≡◌, refl, sym, ◌∙◌}
+use mathlib.Core.Bool.{not}
+use mathlib.Core.List.{List, [], ◌∷◌, ◌++◌, map, append_assoc, append-nil}
 use native.Mathlib.Nat.{mod-add-div}
 use native.Mathlib.Numerals.{add-one}
 use native.Mathlib.Omega.{arith}
-use lib.ListN.{length, take, drop, get_or, set, drop_of_length-le}
-use lib.Seq.{sets, take_all, take-suc-set, drop-cons}
-use borrow.Author.Tests.{eq-eqb, ne_eqb}
+use borrow.Rule.Slice.PartMut.{put_mid}
+use lib.Dec.{eqb}
+use lib.ListN.{length, take, drop, get_or, drop_of_length-le}
+use lib.Seq.{take_all, drop-cons}
+use Rattle.std.specs.Int.{w32, from_le_bytes, to_le_bytes}
+use Rattle.std.specs.List.{list_any, zip}
+use Rattle.std.specs.Simd.{first_chunks}
+use Rattle.std.proofs.lemmas.Slice.{take-put_mid}
+use Rattle.rules.proofs.Tests.{by_cases}
 use Rattle.model.specs.Lists.{same}
 use Rattle.model.proofs.Lists.{Every}
-use Rattle.text.proofs.Putting.{put_front}
-use Rattle.disk.specs.Bytes.{word_of, word_at, words_of, four, file_of}
+use Rattle.disk.specs.Bytes.{word_of, words_of, four, file_of}
 
-next : (l : List ℕ) (j k : ℕ) → suc j ≡ k → j < length l → drop j l ≡ get_or l j 0 ∷ drop k l
-next l j k e h = drop-cons l j 0 h ∙ ap (λ (n : ℕ). get_or l j 0 ∷ drop n l) e
+word_is : (a b c d : ℕ) → from_le_bytes w32 (a ∷ b ∷ c ∷ d ∷ []) ≡ word_of a b c d
+unfolding word_of
+word_is a b c d = omega arith
 
-pub words_on : (b : List ℕ) (at : ℕ) → at + 4 ≤ length b → words_of (drop at b) ≡ word_at b at ∷ words_of (drop (at + 4) b)
+pub words_are : (b : List ℕ) (k : ℕ) → length b ≡ 4 * k → map (from_le_bytes w32) (first_chunks 4 k b) ≡ words_of b
 unfolding words_of
-words_on b at h =
-    rw (next b at (at + 1) (omega arith) (omega arith), next b (at + 1) (at + 2) (omega arith) (omega arith), next b (at + 2) (at + 3) (omega arith) (omega arith), next b (at + 3) (at + 4) (omega arith) (omega arith))
+words_are [] zero l = refl
+words_are [] (suc k) l = absurd (omega arith)
+words_are (a ∷ b) zero l = absurd (omega arith)
+words_are (a ∷ []) (suc k) l = absurd (omega arith)
+words_are (a ∷ b ∷ []) (suc k) l = absurd (omega arith)
+words_are (a ∷ b ∷ c ∷ []) (suc k) l = absurd (omega arith)
+words_are (a ∷ b ∷ c ∷ d ∷ bs) (suc k) l = rw (word_is a b c d, words_are bs k (omega arith))
 
-pub words_end : (b : List ℕ) (at : ℕ) → length b ≤ at → words_of (drop at b) ≡ []
-unfolding words_of
-words_end b at h = rw (drop_of_length-le b h)
+pub differs_are : (f : List ℕ → ℕ) (w : List ℕ) (cs : List (List ℕ)) → length w ≡ length cs
+    → list_any (λ (p : ℕ × List ℕ). not (eqb p.0 (f p.1))) (zip w cs) ≡ not (same w (map f cs))
+differs_are f [] [] l = refl
+differs_are f [] (c ∷ cs) l = absurd (omega arith)
+differs_are f (x ∷ w) [] l = absurd (omega arith)
+differs_are f (x ∷ w) (c ∷ cs) l =
+    by_cases (eqb x (f c)) (λ e. rw e (differs_are f w cs (omega arith))) (λ e. rw e)
 
-pub read_more : (b w whole : List ℕ) (i at v : ℕ) → i < length w → at + 4 ≤ length b → v ≡ word_at b at → take i w ++ words_of (drop at b) ≡ whole
-    → take (i + 1) (set w i v) ++ words_of (drop (at + 4) b) ≡ whole
-read_more b w whole i at v h k e old =
-    rw (add-one i, take-suc-set w i v h, append_assoc (take i w) (v ∷ []) (words_of (drop (at + 4) b)), e, ← (words_on b at k)) old
-
-pub read_end : (b w whole : List ℕ) (i at : ℕ) → length w ≤ i → length b ≤ at → take i w ++ words_of (drop at b) ≡ whole → w ≡ whole
-read_end b w whole i at h k old = sym (append-nil w) ∙ (rw (words_end b at k, take_all i w h) at old)
-
-pub bytes_on : (w : List ℕ) (i : ℕ) → i < length w → file_of (drop i w) ≡ four (get_or w i 0) ++ file_of (drop (i + 1) w)
-unfolding file_of
-bytes_on w i h = rw (next w i (i + 1) (omega arith) h)
-
-pub bytes_end : (w : List ℕ) (i : ℕ) → length w ≤ i → file_of (drop i w) ≡ []
-unfolding file_of
-bytes_end w i h = rw (drop_of_length-le w h)
-
-pub write_more : (w b whole : List ℕ) (i at v : ℕ) → i < length w → at + 4 ≤ length b → v ≡ get_or w i 0 → take at b ++ file_of (drop i w) ≡ whole
-    → take (at + 4) (sets b at (four v)) ++ file_of (drop (i + 1) w) ≡ whole
+pub four_is : (w : ℕ) → to_le_bytes w32 w ≡ four w
 unfolding four
-write_more w b whole i at v h k e old =
-    rw (put_front b (four v) at k, append_assoc (take at b) (four v) (file_of (drop (i + 1) w)), e, ← (bytes_on w i h)) old
+four_is w =
+    let e₂ : w / 256 / 256 ≡ w / 65536 = omega arith in
+    let e₃ : w / 256 / 256 / 256 ≡ w / 16777216 = omega arith in
+    rw (e₃, e₂)
 
-pub write_end : (w b whole : List ℕ) (i at : ℕ) → length w ≤ i → length b ≤ at → take at b ++ file_of (drop i w) ≡ whole → b ≡ whole
-write_end w b whole i at h k old = sym (append-nil b) ∙ (rw (bytes_end w i h, take_all at b k) at old)
+file_on : (w : List ℕ) (i : ℕ) → i < length w → file_of (drop i w) ≡ four (get_or w i 0) ++ file_of (drop (i + 1) w)
+unfolding file_of
+file_on w i h = rw (drop-cons w i 0 h, add-one i)
 
--- two runs of words, compared from a place on
-pub same_on : (w b : List ℕ) (i at : ℕ) → i < length w → at + 4 ≤ length b → get_or w i 0 ≡ word_at b at
-    → same (drop (i + 1) w) (words_of (drop (at + 4) b)) ≡ same (drop i w) (words_of (drop at b))
-same_on w b i at h k e = rw (next w i (i + 1) (omega arith) h, words_on b at k, eq-eqb (get_or w i 0) (word_at b at) e)
+pub write_more : (w b whole v : List ℕ) (i k : ℕ) → i < length w → 4 * i + 4 ≤ length b → v ≡ to_le_bytes w32 (get_or w i 0)
+    → take (4 * i) b ++ file_of (drop i w) ≡ whole → take (4 * (i + 1)) (put_mid (4 * i) k b v) ++ file_of (drop (i + 1) w) ≡ whole
+unfolding four
+write_more w b whole v i k h fits e old =
+    let is : v ≡ four (get_or w i 0) = e ∙ four_is (get_or w i 0) in
+    let long : length v ≡ 4 = rw is refl in
+    let front = take-put_mid (4 * i) k b v (4 * (i + 1)) (omega arith) (omega arith) in
+    rw (front, append_assoc (take (4 * i) b) v (file_of (drop (i + 1) w)), is, ← (file_on w i h)) old
 
-pub same_stop : (w b : List ℕ) (i at : ℕ) → i < length w → at + 4 ≤ length b → (get_or w i 0 ≡ word_at b at → ⊥) → same (drop i w) (words_of (drop at b)) ≡ false
-same_stop w b i at h k n = rw (next w i (i + 1) (omega arith) h, words_on b at k, ne_eqb (get_or w i 0) (word_at b at) n)
-
-pub same_end : (w b : List ℕ) (i at : ℕ) → length w ≤ i → length b ≤ at → same (drop i w) (words_of (drop at b)) ≡ true
-same_end w b i at h k = rw (drop_of_length-le w h, words_end b at k)
+pub write_end : (w b whole : List ℕ) (i : ℕ) → length w ≤ i → length b ≤ 4 * i → take (4 * i) b ++ file_of (drop i w) ≡ whole → b ≡ whole
+unfolding file_of
+write_end w b whole i h k old = sym (append-nil b) ∙ (rw (drop_of_length-le w h, take_all (4 * i) b k) at old)
 
 -- both ways round
 pub four_back : (w : ℕ) → w < 4294967296 → word_of (w % 256) (w / 256 % 256) (w / 256 / 256 % 256) (w / 256 / 256 / 256 % 256) ≡ w

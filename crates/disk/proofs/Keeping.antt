@@ -1,42 +1,32 @@
--- Two texts compared byte by byte, from a place on (`same_next`, `same_differ`, `same_all`); texts of different lengths are not the same (`same_short`); and
--- the part of a text that is compared (`cut_long`, `cut_at`, `cut_short`). Saved answers that belong to a file reach behind its bytes (`belongs_within`).
-use Prim.Native.Nat.{ℕ, ◌+◌, ◌-◌, ◌≤◌, ◌<◌}
-use mathlib.Core.Path.{◌≡◌, ap, ◌∙◌}
-use mathlib.Core.Bool.{true, false}
-use mathlib.Core.List.{List}
-use native.Mathlib.Numerals.{add-one}
+-- That a text begins with another (`starts_is`). Where the head of saved answers stands, there are its bytes (`head_within`), and saved answers that belong to a
+-- file reach behind its bytes (`belongs_within`).
+use Prim.Native.Nat.{ℕ, ◌+◌, ◌≤◌}
+use mathlib.Core.Path.{◌≡◌, refl, sym, ap, ◌∙◌}
+use mathlib.Core.Bool.{true, false≢true}
+use mathlib.Core.List.{List, [], ◌∷◌}
 use native.Mathlib.Omega.{arith}
-use lib.ListN.{length, take, drop, get_or, length-drop, length-take, drop_of_length-le}
-use lib.Seq.{drop-cons, take_all, length-take-le, get_or-take, get_or-drop}
-use borrow.Author.Tests.{eq-eqb, ne_eqb}
+use lib.Dec.{eqb}
+use lib.ListN.{length, take, drop, length-drop, length-take}
+use borrow.Author.Tests.{eq-eqb, ne_eqb, eqb-true}
+use Rattle.std.specs.List.{starts_with}
+use lib.Pointwise.{pointwise}
 use Rattle.rules.proofs.Tests.{by_cases, both}
 use Rattle.model.specs.Lists.{same}
 use Rattle.model.proofs.Lists.{same_eq}
 use Rattle.disk.specs.Bytes.{four}
 use Rattle.disk.specs.Last.{head_of, head_size, stands_at, belongs}
 
-module _ (a b : List ℕ) (i : ℕ) where
-  pub same_next : i < length a → i < length b → get_or a i 0 ≡ get_or b i 0 → same (drop (i + 1) a) (drop (i + 1) b) ≡ same (drop i a) (drop i b)
-  same_next h k e = rw (add-one i, drop-cons a i 0 h, drop-cons b i 0 k, eq-eqb (get_or a i 0) (get_or b i 0) e)
+eqb_swap : (x y : ℕ) → eqb x y ≡ eqb y x
+eqb_swap x y = by_cases (eqb y x) (λ e. eq-eqb x y (sym (eqb-true y x e)) ∙ sym e) (λ e. ne_eqb x y (λ f. false≢true (sym e ∙ eq-eqb y x (sym f))) ∙ sym e)
 
-  pub same_differ : i < length a → i < length b → (get_or a i 0 ≡ get_or b i 0 → ⊥) → same (drop i a) (drop i b) ≡ false
-  same_differ h k n = rw (drop-cons a i 0 h, drop-cons b i 0 k, ne_eqb (get_or a i 0) (get_or b i 0) n)
+same_swap : (a b : List ℕ) → pointwise eqb b a ≡ same a b
+same_swap [] [] = refl
+same_swap [] (y ∷ b) = refl
+same_swap (x ∷ a) [] = refl
+same_swap (x ∷ a) (y ∷ b) = rw (eqb_swap y x, same_swap a b)
 
-  pub same_all : length a ≤ i → length b ≤ i → same (drop i a) (drop i b) ≡ true
-  same_all h k = rw (drop_of_length-le a h, drop_of_length-le b k)
-
-pub same_short : (a b : List ℕ) → (length a ≡ length b → ⊥) → same a b ≡ false
-same_short a b n = by_cases (same a b) (λ e. absurd (n (ap length (same_eq a b e)))) (λ e. e)
-
-module _ (text : List ℕ) (at n : ℕ) where
-  pub cut_long : at + n ≤ length text → length (take n (drop at text)) ≡ n
-  cut_long h = length-take-le n (drop at text) (omega (arith, length-drop at text))
-
-  pub cut_at : (i : ℕ) → i < n → get_or (take n (drop at text)) i 0 ≡ get_or text (at + i) 0
-  cut_at i h = get_or-take n (drop at text) i 0 h ∙ get_or-drop at text i 0
-
-  pub cut_short : length text - at < n → length (take n (drop at text)) ≡ n → ⊥
-  cut_short h e = omega (arith, e, length-drop at text, ap length (take_all n (drop at text) (omega (arith, length-drop at text))))
+pub starts_is : (text part : List ℕ) → starts_with eqb text part ≡ same (take (length part) text) part
+starts_is text part = same_swap (take (length part) text) part
 
 -- where the head stands, there are its bytes
 pub head_within : (file last : List ℕ) → stands_at last 0 (head_of file) ≡ true → head_size ≤ length last

@@ -1,5 +1,6 @@
 -- Laws that the functions' proofs cite, one theme a file
 pub mod Bytes
+pub mod Filling
 pub mod Lengths
 pub mod Served
 pub mod Making

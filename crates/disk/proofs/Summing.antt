@@ -1,16 +1,15 @@
--- The sizes of files, one after another: the loop's sums (`all_next`, `all_stop`, `sum_next`, `sizes_end`) and the words of each (`lengths_more`,
--- `lengths_end`). Sizes that are stores' and add up have room (`sizes_room`); a report takes as much scratch whatever the stores (`need_all`), and what it writes
--- lies within the output (`report_within`).
-use Prim.Native.Nat.{ℕ, suc, ◌+◌, ◌*◌, ◌/◌, ◌≤◌, ◌<◌}
-use mathlib.Core.Path.{◌≡◌, refl, sym, ◌∙◌}
-use mathlib.Core.Bool.{true, false}
-use mathlib.Core.List.{List, [], ◌∷◌, ◌++◌, map, append_assoc, append-nil}
+-- The sizes of files, one after another. The model's words for their test and their sum (`all_is`, `sum_is`). Sizes that are stores' and add up have room
+-- (`sizes_room`); a report takes as much scratch whatever the stores (`need_all`), and what it writes lies within the output (`report_within`).
+use Prim.Native.Nat.{ℕ, ◌+◌, ◌*◌, ◌/◌, ◌≤◌}
+use mathlib.Core.Path.{◌≡◌, refl, ap, ◌∙◌}
+use mathlib.Core.Bool.{Bool, true, false}
+use mathlib.Core.List.{List, [], ◌∷◌, map}
 use native.Mathlib.Nat.{mod-add-div}
-use native.Mathlib.Numerals.{add-one}
 use native.Mathlib.Omega.{arith}
 use lib.Dec.{ltb, eqb}
-use lib.ListN.{length, take, drop, get_or, set, length-append, drop_of_length-le}
-use lib.Seq.{drop-cons, take_all, take-suc-set}
+use Rattle.std.specs.List.{list_all, sum}
+use Rattle.std.proofs.lemmas.List.Sums.{sum_by-cons}
+use lib.ListN.{length, take, drop, length-append}
 use borrow.Author.Tests.{eqb-true}
 use Rattle.rules.proofs.Tests.{by_cases, both}
 use Rattle.model.specs.Lists.{between, all, total}
@@ -24,36 +23,16 @@ use Rattle.disk.specs.Desk.{most_words, sized}
 use Rattle.disk.specs.Report.{words_in, sizes_ok, desk_report, Reports}
 use Rattle.disk.proofs.Lengths.{most_words_lem, sized_is}
 
-abbrev pub sum : List ℕ → ℕ
-sum l = total (λ k. k) l
+-- the model's words for what an iterator tells of all elements, and of their sum
+pub all_is : (f : ℕ → Bool) (l : List ℕ) → list_all f l ≡ all f l
+all_is f [] = refl
+all_is f (x ∷ l) = rw (all_is f l)
 
-module _ (l : List ℕ) (i : ℕ) (h : i < length l) where
-  pub all_next : sized (get_or l i 0) ≡ true → all sized (drop (i + 1) l) ≡ all sized (drop i l)
-  all_next e = rw (add-one i, drop-cons l i 0 h, e)
+pub sum_is : (l : List ℕ) → sum l ≡ total (λ k. k) l
+sum_is [] = refl
+sum_is (x ∷ l) = sum_by-cons (λ (k : ℕ). k) x l ∙ ap (λ (n : ℕ). x + n) (sum_is l)
 
-  pub all_stop : sized (get_or l i 0) ≡ false → all sized (drop i l) ≡ false
-  all_stop e = rw (drop-cons l i 0 h, e)
-
-  pub sum_next : get_or l i 0 + sum (drop (i + 1) l) ≡ sum (drop i l)
-  sum_next = rw (add-one i, drop-cons l i 0 h)
-
-  pub lengths_more : (m whole : List ℕ) (v : ℕ) → i < length m → v ≡ words_in (get_or l i 0) → take i m ++ map words_in (drop i l) ≡ whole
-      → take (i + 1) (set m i v) ++ map words_in (drop (i + 1) l) ≡ whole
-  lengths_more m whole v k e old =
-      rw (add-one i, take-suc-set m i v k, append_assoc (take i m) (v ∷ []) (map words_in (drop (suc i) l)), e) (rw (drop-cons l i 0 h) at old)
-
-pub lengths_end : (l m whole : List ℕ) (i : ℕ) → length l ≤ i → length m ≤ i → take i m ++ map words_in (drop i l) ≡ whole → m ≡ whole
-lengths_end l m whole i h k old = sym (append-nil m) ∙ (rw (drop_of_length-le l h, take_all i m k) at old)
-
-pub sizes_end : (l : List ℕ) (i s n : ℕ) → length l ≤ i → all sized (drop i l) ≡ all sized l → s + sum (drop i l) ≡ sum l → eqb s n ≡ sizes_ok n l
-unfolding sizes_ok
-sizes_end l i s n h a t =
-    let a' : true ≡ all sized l = rw (drop_of_length-le l h) at a in
-    let t' : s + 0 ≡ sum l = rw (drop_of_length-le l h) at t in
-    let e : s ≡ sum l = omega (arith, t') in
-    rw (← a', ← e)
-
-sized_words : (ns : List ℕ) → all sized ns ≡ true → (sum ns ≡ 4 * total words_in ns) × (total words_in ns ≤ 15648 * length ns)
+sized_words : (ns : List ℕ) → all sized ns ≡ true → (total (λ k. k) ns ≡ 4 * total words_in ns) × (total words_in ns ≤ 15648 * length ns)
 sized_words [] e = (refl, omega arith)
 sized_words (n ∷ ns) e =
     let a = both (sized n) (all sized ns) e in
@@ -64,8 +43,8 @@ sized_words (n ∷ ns) e =
 pub sizes_room : (n : ℕ) (ns : List ℕ) → sizes_ok n ns ≡ true → length ns ≤ most_stores → (n / 4 ≤ most_stores * most_words) × (n ≡ 4 * (n / 4))
 unfolding sizes_ok
 sizes_room n ns e h =
-    let a = both (all sized ns) (eqb (sum ns) n) e in
-    let s = eqb-true (sum ns) n a.1 in
+    let a = both (all sized ns) (eqb (total (λ k. k) ns) n) e in
+    let s = eqb-true (total (λ k. k) ns) n a.1 in
     let r = sized_words ns a.0 in
     (omega (arith, most_words_lem, s, r.0, r.1, mod-add-div n 4), omega (arith, s, r.0, mod-add-div n 4))
 

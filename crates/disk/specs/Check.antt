@@ -1,5 +1,5 @@
 -- What `desk check` says of a file: whether it is a sound store, what that holds, and its terms.
-use Rattle.std.specs.Prelude.{ℕ, ◌≡◌, cond, List, [], ◌∷◌, ◌++◌, eqb, length}
+use Rattle.std.specs.Prelude.{ℕ, ◌≡◌, Bool, true, false, cond, Option, Some, None, List, [], ◌∷◌, ◌++◌, eqb, length}
 use Rattle.model.specs.Model.{held, faults_held, size}
 use Rattle.model.specs.Layout.{shape_of, decode, sound}
 use Rattle.model.specs.Numbers.{not_sound}
@@ -76,11 +76,11 @@ check_text s = cond (eqb s.number 0) (sound_text s) not_sound_line
 abbrev pub check_size : ℕ
 check_size = 256
 
--- what the program holds of a file
-abbrev pub seen_in : Given.Seen → Seen
-seen_in s =
+-- what the program holds of a sound store, and of any file
+abbrev pub told_in : Given.Seen → Seen
+told_in s =
     record {
-      number = s.number;
+      number = 0;
       limit = s.cards;
       fault_limit = s.faults;
       upper = s.upper;
@@ -89,6 +89,15 @@ seen_in s =
       faults = s.filed;
       buckets = s.buckets;
     }
+
+abbrev pub seen_in : Option Given.Seen → Seen
+seen_in (Some s) = told_in s
+seen_in None = unseen
+
+-- a sound store has the number 0
+abbrev pub number_for : Bool → ℕ
+number_for true = 0
+number_for false = not_sound
 
 -- what it gives and writes
 pub record Looks (s : Seen) (out : List ℕ) (number len : ℕ) (out' : List ℕ) : Type 0 where

@@ -19,7 +19,8 @@ const WORDS: usize = store::MOST_WORDS;
 
 pub const BYTES: usize = 4 * WORDS;
 
-const FILE: usize = BYTES + 1;
+// Of the bytes one more, which tells a file that is too long.
+pub const FILE: usize = BYTES + 1;
 
 // The bytes of the shortest store, and of a fault more.
 const LEAST_BYTES: usize = 4 * (store::CARDS_AT + store::CARD_WIDTH + store::FAULT_WIDTH);
@@ -39,25 +40,11 @@ pub fn sized(n: usize) -> bool
     (n - LEAST_BYTES) % FAULT_BYTES == 0
 }
 
-// Room for the words of the longest store. The `ensures` gives only the length.
-fn room() -> [u32; WORDS]
-    ensures { most_words ≡ length result }
+// Room for so many elements. The `ensures` gives only the length, so that no proof counts the zeros.
+pub fn room<T: Copy + Default, const N: usize>() -> [T; N]
+    ensures { N ≡ length result }
 {
-    [0u32; WORDS]
-}
-
-// Room for all that is written for a job. The `ensures` gives only the length.
-pub fn output() -> [u8; reader::WHOLE]
-    ensures { whole_size ≡ length result }
-{
-    [0u8; reader::WHOLE]
-}
-
-// Room for a file, and one byte more, which tells a file that is too long.
-pub fn file_room() -> [u8; FILE]
-    ensures { most_bytes + 1 ≡ length result }
-{
-    [0u8; FILE]
+    [T::default(); N]
 }
 
 // How a job ended, how long its text is, and whether the file has changed.
@@ -99,6 +86,6 @@ pub fn serve(file: &mut [u8], text: &[u8], out: &mut [u8]) -> Outcome
         };
     }
     let k = file.len() / 4;
-    let mut space = room();
+    let mut space: [u32; WORDS] = room();
     serve_in(file, &mut space[..k], text, out)
 }

@@ -4,18 +4,16 @@ ghost use Rattle.model.specs.Layout.{sound};
 ghost use Rattle.reader.specs.Depot.{Writes};
 ghost use Rattle.text.specs.Decimals.{Puts};
 ghost use Rattle.disk.specs.Bytes.{words_of};
-ghost use Rattle.disk.specs.Check.{unseen as Check·unseen, told, seen_by, desk_check, sound_text, check_text, check_size, seen_in, Looks};
+ghost use Rattle.disk.specs.Check.{told, seen_by, desk_check, sound_text, check_text, check_size, told_in, seen_in, number_for, Looks};
 
-use crate::{room, sized, texts, words};
-use store::numbers;
+use crate::{WORDS, room, sized, texts, words};
 
 // Room for the text.
 pub const TEXT: usize = 256;
 
-// What is told of a file: 0, and the limits, the bounds and the counts of a sound store; 3 where it is none.
+// What a sound store tells: its limits, its bounds and its counts.
 #[derive(Clone, Copy)]
 pub struct Seen {
-    pub number: u32,
     pub cards: u32,
     pub faults: u32,
     pub upper: u32,
@@ -25,68 +23,53 @@ pub struct Seen {
     pub buckets: u32,
 }
 
-fn unseen() -> Seen
-    ensures { seen_in result ≡ Check·unseen }
-{
-    Seen {
-        number: numbers::NOT_SOUND,
-        cards: 0,
-        faults: 0,
-        upper: 0,
-        lower: 0,
-        held: 0,
-        filed: 0,
-        buckets: 0,
-    }
-}
-
 // What the words of a store known to be sound tell.
 fn see_sound(w: &[u32]) -> Seen
     requires { sound w.now ≡ true }
-    ensures { seen_in result ≡ told w.now }
+    ensures { told_in result ≡ told w.now }
 {
     let h = store::header_of(w);
     Seen {
-        number: 0,
         cards: h.cards,
         faults: h.faults,
         upper: h.upper,
         lower: h.lower,
-        held: words::word(w, store::HELD_AT),
-        filed: words::word(w, store::FAULTS_HELD_AT),
+        held: w[store::HELD_AT],
+        filed: w[store::FAULTS_HELD_AT],
         buckets: store::buckets(w),
     }
 }
 
 // What the bytes of a file tell, with room for its words.
-fn see_in(file: &[u8], words: &mut [u32]) -> Seen
+fn see_in(file: &[u8], words: &mut [u32]) -> Option<Seen>
     requires { length file.now ≡ 4 * length words.old }
     ensures { seen_in result ≡ seen_by (words_of file.now) }
 {
     words::read(file, words);
     let mut scratch = [0u8; store::NEED];
-    if !store::check(words, &mut scratch) {
-        return unseen();
+    if store::check(words, &mut scratch) {
+        Some(see_sound(words))
+    } else {
+        None
     }
-    see_sound(words)
 }
 
-// What a file tells.
-pub fn see(file: &[u8]) -> Seen
+// What a file tells, where it is a sound store.
+pub fn see(file: &[u8]) -> Option<Seen>
     ensures { seen_in result ≡ desk_check file.now }
 {
     if !sized(file.len()) {
-        return unseen();
+        return None;
     }
     let k = file.len() / 4;
-    let mut space = room();
+    let mut space: [u32; WORDS] = room();
     see_in(file, &mut space[..k])
 }
 
 // The five lines of a sound store.
 fn put_sound(out: &mut [u8], s: Seen) -> usize
     requires { check_size ≤ length out.old }
-    ensures { Puts out.old 0 (sound_text (seen_in s)) result out.new }
+    ensures { Puts out.old 0 (sound_text (told_in s)) result out.new }
 {
     let a = texts::put_text(out, 0, b"sound\n");
     let b = texts::put_pair(out, a, b"cards ", s.held, b" of ", s.cards);
@@ -97,30 +80,31 @@ fn put_sound(out: &mut [u8], s: Seen) -> usize
 }
 
 // What is told, as text.
-fn put_seen(out: &mut [u8], s: Seen) -> usize
+fn put_seen(out: &mut [u8], seen: Option<Seen>) -> usize
     requires { check_size ≤ length out.old }
-    ensures { Writes (check_text (seen_in s)) out.old result out.new }
+    ensures { Writes (check_text (seen_in seen)) out.old result out.new }
 {
-    if s.number != 0 {
-        return texts::put_text(out, 0, b"not sound\n");
+    match seen {
+        Some(s) => put_sound(out, s),
+        None => texts::put_text(out, 0, b"not sound\n"),
     }
-    put_sound(out, s)
 }
 
-// 0 for a sound store and 3 for any other file, and how long its text is.
+// Whether a file is a sound store, and how long its text is.
 #[derive(Clone, Copy)]
 pub struct Looked {
-    pub number: u32,
+    pub sound: bool,
     pub len: usize,
 }
 
 // What a file holds, as text.
 pub fn look(file: &[u8], out: &mut [u8]) -> Looked
     requires { check_size ≤ length out.old }
-    ensures { Looks (desk_check file.now) out.old result.number result.len out.new }
+    ensures { Looks (desk_check file.now) out.old (number_for result.sound) result.len out.new }
 {
-    let s = see(file);
-    let number = s.number;
-    let len = put_seen(out, s);
-    Looked { number, len }
+    let seen = see(file);
+    Looked {
+        sound: seen.is_some(),
+        len: put_seen(out, seen),
+    }
 }

@@ -1,5 +1,5 @@
 // The names beside a file's: its own with an ending, and the folder that it stands in.
-ghost use Rattle.std.specs.Prelude.{◌+◌, ◌≤◌, ◌≡◌, length};
+ghost use Rattle.std.specs.Prelude.{◌+◌, ◌≤◌, length};
 ghost use Rattle.disk.specs.Names.{Folder, Named};
 
 use crate::texts;
@@ -8,13 +8,6 @@ use crate::texts;
 pub const PATH: usize = 4096;
 
 pub const LONGER: usize = PATH + 9;
-
-// Room for a name. The `ensures` gives only the length.
-pub fn buffer() -> [u8; LONGER]
-    ensures { 4105 ≡ length result }
-{
-    [0u8; LONGER]
-}
 
 // A file's path with an ending, at the front; its length.
 pub fn beside(path: &[u8], ending: &[u8], out: &mut [u8]) -> usize
@@ -29,13 +22,8 @@ pub fn beside(path: &[u8], ending: &[u8], out: &mut [u8]) -> usize
 pub fn folder_end(path: &[u8]) -> usize
     ensures { Folder path.now result }
 {
-    let mut end: usize = 0;
-    let mut i: usize = 0;
-    while i < path.len() {
-        if texts::byte(path, i) == b'/' {
-            end = i + 1;
-        }
-        i += 1;
+    match path.iter().rposition(|byte| *byte == b'/') {
+        Some(slash) => slash + 1,
+        None => 0,
     }
-    end
 }

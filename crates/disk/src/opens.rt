@@ -2,7 +2,7 @@
 ghost use Rattle.std.specs.Prelude.{◌≡◌, ◌≤◌, length};
 ghost use Rattle.model.specs.Layout.{length_for};
 ghost use Rattle.model.specs.Calls.{shape_for, asked};
-ghost use Rattle.disk.specs.Desk.{most_bytes, argument as Desk·argument, new_size, fresh_for, desk_new, Files, Makes};
+ghost use Rattle.disk.specs.Desk.{most_bytes, argument as Desk·argument, terms_from, new_size, fresh_for, desk_new, Files, Makes};
 
 use crate::{WORDS, room, texts, words};
 use store::numbers::BAD_LIMITS;
@@ -18,11 +18,44 @@ fn argument(field: &[u8]) -> u32
     numbers::number(field)
 }
 
+// The fields of the arguments that a store is opened by.
+#[derive(Clone, Copy)]
+pub struct Fields<'a> {
+    pub cards: &'a [u8],
+    pub faults: &'a [u8],
+    pub upper: &'a [u8],
+    pub lower: &'a [u8],
+}
+
+// What Open is asked for.
+#[derive(Clone, Copy)]
+struct Terms {
+    cards: u32,
+    faults: u32,
+    upper: u32,
+    lower: u32,
+}
+
+impl<'a> From<Fields<'a>> for Terms {
+    ghost from_gives = { λ fields terms. asked terms.cards terms.faults terms.upper terms.lower ≡ terms_from fields.cards.now fields.faults.now fields.upper.now fields.lower.now };
+
+    fn from(fields: Fields<'a>) -> Terms {
+        Terms {
+            cards: argument(fields.cards),
+            faults: argument(fields.faults),
+            upper: argument(fields.upper),
+            lower: argument(fields.lower),
+        }
+    }
+}
+
 // The words of a store with these limits; the bounds make no difference.
-fn length_for(cards: u32, faults: u32, upper: u32, lower: u32) -> usize
-    ensures { result ≡ length_for (shape_for (asked cards faults upper lower)) }
+fn length_for(terms: Terms) -> usize
+    ensures { result ≡ length_for (shape_for (asked terms.cards terms.faults terms.upper terms.lower)) }
 {
-    store::CARDS_AT + store::CARD_WIDTH * (cards as usize) + store::FAULT_WIDTH * (faults as usize)
+    store::CARDS_AT
+        + store::CARD_WIDTH * (terms.cards as usize)
+        + store::FAULT_WIDTH * (terms.faults as usize)
 }
 
 // Open's number, and the bytes of the file, none where the number is not 0.
@@ -39,15 +72,21 @@ fn not_made(number: u32) -> Opened
 }
 
 // A fresh store, as bytes at the front. Limits that ask for more words than the longest store has are out of range.
-fn fresh_for(cards: u32, faults: u32, upper: u32, lower: u32, file: &mut [u8]) -> Opened
+fn fresh_for(terms: Terms, file: &mut [u8]) -> Opened
     requires { most_bytes ≤ length file.old }
-    ensures { Files (fresh_for (asked cards faults upper lower)) file.old result.number result.len file.new }
+    ensures { Files (fresh_for (asked terms.cards terms.faults terms.upper terms.lower)) file.old result.number result.len file.new }
 {
-    let n = length_for(cards, faults, upper, lower);
+    let n = length_for(terms);
     if WORDS < n {
         return not_made(BAD_LIMITS);
     }
-    let mut space = room();
+    let mut space: [u32; WORDS] = room();
+    let Terms {
+        cards,
+        faults,
+        upper,
+        lower,
+    } = terms;
     let number = store::open(&mut space[..n], cards, faults, upper, lower);
     if number != 0 {
         return not_made(number);
@@ -66,26 +105,14 @@ pub struct Made {
 }
 
 // A fresh store's file for four arguments, and the number as a line.
-pub fn fresh(
-    cards: &[u8],
-    faults: &[u8],
-    upper: &[u8],
-    lower: &[u8],
-    file: &mut [u8],
-    out: &mut [u8],
-) -> Made
+pub fn fresh(fields: Fields, file: &mut [u8], out: &mut [u8]) -> Made
     requires { (most_bytes ≤ length file.old) × (new_size ≤ length out.old) }
-    ensures { Makes (desk_new cards.now faults.now upper.now lower.now) file.old out.old result.number result.len result.said file.new out.new }
+    ensures { Makes (desk_new fields.entry.cards.now fields.entry.faults.now fields.entry.upper.now fields.entry.lower.now) file.old out.old result.number result.len result.said file.new out.new }
 {
-    let c = argument(cards);
-    let f = argument(faults);
-    let u = argument(upper);
-    let l = argument(lower);
-    let r = fresh_for(c, f, u, l, file);
-    let number = r.number;
-    let said = texts::put_line(out, 0, number);
+    let r = fresh_for(fields.into(), file);
+    let said = texts::put_line(out, 0, r.number);
     Made {
-        number,
+        number: r.number,
         len: r.len,
         said,
     }

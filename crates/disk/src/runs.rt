@@ -6,56 +6,27 @@ ghost use Rattle.disk.specs.Bytes.{words_of};
 ghost use Rattle.disk.specs.Desk.{most_words};
 ghost use Rattle.disk.specs.Report.{words_in, sizes_ok, report_on, desk_report, Reports};
 
-use crate::{WORDS, sized, words};
+use crate::{WORDS, room, sized, words};
 use store::{Wrote, numbers};
 
-// The most files, their words, their bytes and one more.
+// The most files, and their words.
 pub const FILES: usize = 8;
 
 const ALL_WORDS: usize = FILES * WORDS;
 
-const ALL_FILES: usize = 4 * ALL_WORDS + 1;
+// Of the bytes one more, which tells that the last file is too long.
+pub const ROOM: usize = 4 * ALL_WORDS + 1;
 
 // The longest text: 55 bytes for each of 9,999 codes, and 44 for the totals.
-const TEXT: usize = 55 * 9999 + 44;
-
-// Room for the words of all files. The `ensures` gives only the length.
-fn room_for_all() -> [u32; ALL_WORDS]
-    ensures { most_stores * most_words ≡ length result }
-{
-    [0u32; ALL_WORDS]
-}
-
-// Room for the bytes of all files, and one byte more, which tells that the last is too long. The `ensures` gives only the length.
-pub fn files_room() -> [u8; ALL_FILES]
-    ensures { 500737 ≡ length result }
-{
-    [0u8; ALL_FILES]
-}
-
-// Room for the text of any report. The `ensures` gives only the length.
-pub fn output() -> [u8; TEXT]
-    ensures { 549989 ≡ length result }
-{
-    [0u8; TEXT]
-}
+pub const TEXT: usize = 55 * 9999 + 44;
 
 // Whether each size is one that a store's file can have, and they add up.
 fn sizes_ok(whole: usize, sizes: &[u32]) -> bool
     requires { length sizes.now ≤ most_stores }
     ensures { result ≡ sizes_ok whole sizes.now }
 {
-    let mut i: usize = 0;
-    let mut sum: usize = 0;
-    while i < sizes.len() {
-        let n = words::wide(sizes[i]);
-        if !sized(n) {
-            return false;
-        }
-        sum += n;
-        i += 1;
-    }
-    sum == whole
+    sizes.iter().all(|size| sized(*size as usize))
+        && sizes.iter().map(|size| *size as usize).sum::<usize>() == whole
 }
 
 // The words of each file.
@@ -63,10 +34,8 @@ fn lengths_of(sizes: &[u32], lengths: &mut [u32])
     requires { length sizes.now ≡ length lengths.old }
     ensures { lengths.new ≡ map words_in sizes.now }
 {
-    let mut i: usize = 0;
-    while i < sizes.len() {
-        lengths[i] = words::word(sizes, i) / 4;
-        i += 1;
+    for (i, size) in sizes.iter().enumerate() {
+        lengths[i] = size / 4;
     }
 }
 
@@ -111,6 +80,6 @@ pub fn report_files(files: &[u8], sizes: &[u32], out: &mut [u8]) -> Wrote
         return refuse(numbers::NOT_SOUND);
     }
     let k = files.len() / 4;
-    let mut space = room_for_all();
+    let mut space: [u32; ALL_WORDS] = room();
     report_in(files, &mut space[..k], sizes, out)
 }

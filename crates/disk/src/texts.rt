@@ -1,5 +1,5 @@
 // Texts and lines of numbers, written into an output that has room for them.
-ghost use Rattle.std.specs.Prelude.{◌≡◌, ◌+◌, ◌≤◌, ◌<◌, length, get_or};
+ghost use Rattle.std.specs.Prelude.{◌+◌, ◌≤◌, length};
 ghost use Rattle.text.specs.Decimals.{Puts};
 ghost use Rattle.disk.specs.Desk.{new_size, number_line};
 ghost use Rattle.disk.specs.Check.{pair_line};
@@ -9,25 +9,13 @@ use text::{decimals, letters};
 // Room for a number and LF.
 pub const LINE: usize = 21;
 
-// A byte.
-pub fn byte(text: &[u8], i: usize) -> u8
-    requires { i < length text.now }
-    ensures { result ≡ get_or text.now i 0 }
-{
-    text[i]
-}
-
 // A text at `at`; the place behind it.
 pub fn put_text(out: &mut [u8], at: usize, text: &[u8]) -> usize
     requires { at + length text.now ≤ length out.old }
     ensures { Puts out.old at text.now result out.new }
 {
-    let mut i: usize = 0;
-    let mut end = at;
-    while i < text.len() {
-        end = decimals::put_byte(out, end, byte(text, i));
-        i += 1;
-    }
+    let end = at + text.len();
+    out[at..end].copy_from_slice(text);
     end
 }
 

@@ -1,19 +1,19 @@
 -- `disk::lasts::belongs` meets its contract: the head stands first, and the file's bytes behind it.
-use mathlib.Core.Path.{sym, ◌∙◌}
-use Rattle.disk.specs.Last.{belongs}
-use Rattle.disk.proofs.Keeping.{head_within}
+use Rattle.std.proofs.Common.{sym, ◌∙◌, drop}
+use Rattle.std.proofs.lemmas.List.{take_rest}
+use Rattle.disk.specs.Last.{head_size, belongs}
+use Rattle.disk.proofs.Keeping.{starts_is}
 use Rattle.disk.proofs.lasts.belongs.Goals as goal
 
-pub returns-then-not-stands_at : goal.returns-then-not-stands_at
+pub returns-then-starts_with : goal.returns-then-starts_with
 unfolding belongs
-returns-then-not-stands_at c = let t = c.stands_at in rw (← c.head-first.ensures, sym t.ensures ∙ c.if-not-stands_at.true)
+returns-then-starts_with c =
+    let last = c.args.last.now in
+    let head = sym (starts_is last c.head.result) ∙ sym c.starts_with.ensures.value ∙ c.if-starts_with.true in
+    rw (← c.head.ensures, head) ((rw (take_rest last head_size) at c.starts_with-then-starts_with.ensures.value) ∙ starts_is (drop head_size last) c.args.file.now)
 
-pub stands_at-requires-2 : goal.stands_at-requires-2
-stands_at-requires-2 c =
-    let t = c.stands_at in
-    let a = c.args in
-    head_within a.file.now a.last.now (rw (← c.head-first.ensures) (sym t.ensures ∙ c.if-not-stands_at.false))
-
-pub returns : goal.returns
+pub returns-else-starts_with : goal.returns-else-starts_with
 unfolding belongs
-returns c = let t = c.stands_at in rw (← c.head-first.ensures, sym t.ensures ∙ c.if-not-stands_at.false) c.stands_at-2.ensures
+returns-else-starts_with c =
+    let head = sym (starts_is c.args.last.now c.head.result) ∙ sym c.starts_with.ensures.value ∙ c.if-starts_with.false in
+    rw (← c.head.ensures, head) c.if-starts_with.false

@@ -1,8 +1,9 @@
--- `disk::lasts::head` meets its contract: four bytes, the lowest first.
-use Rattle.disk.specs.Bytes.{four}
+-- `disk::lasts::head` meets its contract: the four lowest of a number's bytes.
+use Rattle.std.proofs.Common.{length, ◌/◌}
 use Rattle.disk.specs.Last.{head_of}
+use Rattle.disk.proofs.Bytes.{four_is}
 use Rattle.disk.proofs.lasts.head.Goals as goal
 
 pub returns : goal.returns
-unfolding head_of four
-returns c = rw (c.low.ensures, c.low-2.ensures, c.low-3.ensures, c.low-4.ensures)
+unfolding head_of
+returns c = rw c.to_le_bytes.ensures (four_is (length c.args.file.now / 4))

@@ -4,7 +4,7 @@ use Prim.Native.Nat.{ℕ}
 use native.Mathlib.Omega.{arith}
 use Rattle.text.proofs.Putting.{puts_then, puts_length}
 use Rattle.disk.specs.Desk.{number_line}
-use Rattle.disk.specs.Check.{Seen, cards_word, faults_word, buckets_word, bounds_word, of_word, sound_line, pair_line, sound_text, seen_in}
+use Rattle.disk.specs.Check.{Seen, cards_word, faults_word, buckets_word, bounds_word, of_word, sound_line, pair_line, sound_text, told_in}
 use Rattle.disk.proofs.Telling.{line_most, pair_most}
 use Rattle.disk.proofs.looks.put_sound.Goals as goal
 
@@ -26,20 +26,20 @@ put_text-a-requires c = omega (arith, c.requires)
 
 pub put_pair-b-requires : goal.put_pair-b-requires
 put_pair-b-requires c =
-    let x = seen_in c.args.s in
+    let x = told_in c.args.s in
     let p1 = c.put_text-a.ensures in
     omega (arith, c.requires, p1.end_is, puts_length sound_line p1)
 
 pub put_pair-c-requires : goal.put_pair-c-requires
 put_pair-c-requires c =
-    let x = seen_in c.args.s in
+    let x = told_in c.args.s in
     let p1 = c.put_text-a.ensures in
     let p2 = c.put_pair-b.ensures in
     omega (arith, c.requires, p1.end_is, puts_length sound_line p1, p2.end_is, puts_length (cards x) p2, pair_most cards_word x.held of_word x.limit)
 
 pub put_text-d-requires : goal.put_text-d-requires
 put_text-d-requires c =
-    let x = seen_in c.args.s in
+    let x = told_in c.args.s in
     let p1 = c.put_text-a.ensures in
     let p2 = c.put_pair-b.ensures in
     let p3 = c.put_pair-c.ensures in
@@ -47,7 +47,7 @@ put_text-d-requires c =
 
 pub put_line-e-requires : goal.put_line-e-requires
 put_line-e-requires c =
-    let x = seen_in c.args.s in
+    let x = told_in c.args.s in
     let p1 = c.put_text-a.ensures in
     let p2 = c.put_pair-b.ensures in
     let p3 = c.put_pair-c.ensures in
@@ -56,7 +56,7 @@ put_line-e-requires c =
 
 pub put_pair-requires : goal.put_pair-requires
 put_pair-requires c =
-    let x = seen_in c.args.s in
+    let x = told_in c.args.s in
     let p1 = c.put_text-a.ensures in
     let p2 = c.put_pair-b.ensures in
     let p3 = c.put_pair-c.ensures in
@@ -67,7 +67,7 @@ put_pair-requires c =
 pub returns : goal.returns
 unfolding sound_text
 returns c =
-    let x = seen_in c.args.s in
+    let x = told_in c.args.s in
     let last = buckets x ++ bounds x in
     puts_then sound_line (cards x ++ (faults x ++ last)) c.put_text-a.ensures (puts_then (cards x) (faults x ++ last) c.put_pair-b.ensures (puts_then (faults x) last c.put_pair-c.ensures
     (puts_then (buckets x) (bounds x) (puts_then buckets_word (number_line x.buckets) c.put_text-d.ensures c.put_line-e.ensures) c.put_pair.ensures)))

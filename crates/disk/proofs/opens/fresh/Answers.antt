@@ -10,8 +10,7 @@ pub returns : goal.returns
 unfolding desk_new
 returns c =
     let s = c.args in
-    let t = terms_from s.cards.now s.faults.now s.upper.now s.lower.now in
+    let t = terms_from s.fields.cards.now s.fields.faults.now s.fields.upper.now s.fields.lower.now in
     let r = c.fresh_for-r in
-    let m : Files (fresh_for t) s.file.now r.result.number r.result.len r.new.file =
-    rw (← c.argument-c.ensures, ← c.argument-f.ensures, ← c.argument-u.ensures, ← c.argument-l.ensures) r.ensures in
+    let m : Files (fresh_for t) s.file.now r.result.number r.result.len r.new.file = rw c.into.ensures at r.ensures in
     record { made = m; text_is = rw (fresh_said t, ← m.number_is) (puts_front (number_line r.result.number) (omega (arith, c.requires, line_most r.result.number)) c.put_line-said.ensures) }

@@ -13,7 +13,7 @@ use Rattle.disk.proofs.opens.fresh_for.Goals as goal
 
 -- what Open is asked for
 abbrev terms : Start → Terms
-terms s = asked s.args.cards s.args.faults s.args.upper s.args.lower
+terms s = asked s.args.terms.cards s.args.terms.faults s.args.terms.upper s.args.terms.lower
 
 pub returns-then-n-gt-WORDS : goal.returns-then-n-gt-WORDS
 returns-then-n-gt-WORDS c = let m = c.not_made.ensures in rw (m.0, m.1) (none_made (terms (goal.at.returns-then-n-gt-WORDS c).Start) c.args.file.now (limits_over (terms (goal.at.returns-then-n-gt-WORDS c).Start) (omega (arith, most_words_lem, c.length_for-n.ensures, c.if-n-gt-WORDS.true))))
@@ -38,6 +38,9 @@ slice_bounds-space-end-2 c =
     let r = c.room-space in
     let o = c.open-number in
     omega (arith, n.ensures, opened_long (take n.result r.result) (terms (goal.at.slice_bounds-space-end-2 c).Start) c.if-number-ne0.false o.ensures.number_is o.ensures.words_are, length-append o.new.words (drop n.result r.result))
+
+pub slice_bounds-write-end-2 : goal.slice_bounds-write-end-2
+slice_bounds-write-end-2 c = omega (arith, most_words_lem, c.requires, c.if-n-gt-WORDS.false)
 
 pub slice_bounds-write-end : goal.slice_bounds-write-end
 slice_bounds-write-end c =

@@ -7,6 +7,7 @@ use lib.Seq.{length-take-le}
 use Rattle.model.specs.Report.{most_stores}
 use Rattle.model.proofs.Lists.{between_is}
 use Rattle.disk.specs.Report.{desk_report}
+use Rattle.disk.proofs.Lengths.{most_words_lem}
 use Rattle.disk.proofs.Summing.{sizes_room, not_between, refused}
 use Rattle.disk.proofs.runs.report_files.Goals as goal
 
@@ -31,20 +32,20 @@ returns-then-not-sizes_ok c =
 pub slice_bounds-space-end : goal.slice_bounds-space-end
 slice_bounds-space-end c =
     let d = c.sizes_ok in
-    omega (arith, c.room_for_all-space.ensures, (sizes_room _ c.args.sizes.now (sym d.ensures ∙ c.if-not-sizes_ok.false) (omega (arith, c.if-sizes-gt-FILES.false))).0)
+    omega (arith, most_words_lem, c.room-space.ensures, (sizes_room _ c.args.sizes.now (sym d.ensures ∙ c.if-not-sizes_ok.false) (omega (arith, c.if-sizes-gt-FILES.false))).0)
 
 pub slice_bounds-report_in-end : goal.slice_bounds-report_in-end
 slice_bounds-report_in-end c =
     let d = c.sizes_ok in
-    let r = c.room_for_all-space in
-    sym (length-take-le _ r.result (omega (arith, r.ensures, (sizes_room _ c.args.sizes.now (sym d.ensures ∙ c.if-not-sizes_ok.false) (omega (arith, c.if-sizes-gt-FILES.false))).0)))
+    let r = c.room-space in
+    sym (length-take-le _ r.result (omega (arith, most_words_lem, r.ensures, (sizes_room _ c.args.sizes.now (sym d.ensures ∙ c.if-not-sizes_ok.false) (omega (arith, c.if-sizes-gt-FILES.false))).0)))
 
 pub report_in-requires : goal.report_in-requires
 report_in-requires c =
     let d = c.sizes_ok in
-    let r = c.room_for_all-space in
+    let r = c.room-space in
     let z = sizes_room _ c.args.sizes.now (sym d.ensures ∙ c.if-not-sizes_ok.false) (omega (arith, c.if-sizes-gt-FILES.false)) in
-    (z.1 ∙ ap (λ (n : ℕ). 4 * n) (sym (length-take-le _ r.result (omega (arith, r.ensures, z.0)))), omega (arith, c.if-sizes-gt-FILES.false))
+    (z.1 ∙ ap (λ (n : ℕ). 4 * n) (sym (length-take-le _ r.result (omega (arith, most_words_lem, r.ensures, z.0)))), omega (arith, c.if-sizes-gt-FILES.false))
 
 pub returns : goal.returns
 unfolding desk_report

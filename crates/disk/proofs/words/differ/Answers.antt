@@ -1,42 +1,21 @@
--- `disk::words::differ` meets its contract. The loop's invariant: what is left is the same exactly if all is.
-use mathlib.Core.Path.{refl, sym, ◌∙◌}
-use native.Mathlib.Omega.{arith}
-use Rattle.disk.proofs.Bytes.{same_on, same_stop, same_end}
+-- `disk::words::differ` meets its contract: the chunks of four bytes are the file's words, and each is compared with its own.
+use Rattle.std.proofs.Common.{rules, ◌≡◌, ℕ, ◌*◌, ◌/◌, List, not, ◌∙◌, length, arith}
+use lib.Dec.{eqb}
+use Rattle.std.specs.Int.{w32, from_le_bytes}
+use Rattle.std.specs.List.{list_any, zip}
+use borrow.Author.Tests.{tests}
+use Rattle.std.proofs.lemmas.Iterator.{YieldsList-from_slice, YieldsList-from_zip}
+use Rattle.std.proofs.lemmas.Iterator.Search.{any_from_yields_List}
+use Rattle.disk.proofs.Bytes.{words_are, differs_are}
 use Rattle.disk.proofs.words.differ.Goals as goal
-
-pub loop-i-init : goal.loop-i-init
-loop-i-init c = (omega arith, refl, refl)
-
-pub word-requires : goal.word-requires
-word-requires c = omega arith
-
-pub word_at-requires : goal.word_at-requires
-word_at-requires c = omega arith
-
-pub returns-then-word-word_at : goal.returns-then-word-word_at
-returns-then-word-word_at c =
-    let j = c.loop-i in
-    let a = c.args in
-    let stop = same_stop a.words.now a.bytes.now j.i j.at (omega arith) (omega arith) (λ e. c.if-word-word_at.true (c.word.ensures ∙ e ∙ sym c.word_at.ensures)) in
-    rw (← j.invariant.2, stop)
-
-pub overflow_add-i : goal.overflow_add-i
-overflow_add-i c = omega arith
-
-pub overflow_add-at : goal.overflow_add-at
-overflow_add-at c = omega arith
-
-pub loop-i-smaller : goal.loop-i-smaller
-loop-i-smaller c = omega arith
-
-pub loop-i-preserved : goal.loop-i-preserved
-loop-i-preserved c =
-    let j = c.loop-i in
-    let a = c.args in
-    (omega arith, omega arith, same_on a.words.now a.bytes.now j.i j.at (omega arith) (omega arith) (sym c.word.ensures ∙ c.if-word-word_at.false ∙ c.word_at.ensures) ∙ j.invariant.2)
 
 pub returns : goal.returns
 returns c =
-    let j = c.loop-i in
-    let a = c.args in
-    rw (← j.invariant.2, same_end a.words.now a.bytes.now j.i j.at (omega arith) (omega arith))
+    let words = c.args.words.now in
+    let bytes = c.args.bytes.now in
+    let fours = c.as_chunks.result.0.now in
+    let tested : c.any.result ≡ list_any (λ (p : ℕ × List ℕ). not (eqb p.0 (from_le_bytes w32 p.1))) (zip words fours) = any_from_yields_List {s = c.zip.result} _ c.any.new.self c.any.new.f c.any.result c.any.ensures.ran
+    (YieldsList-from_zip {s = c.zip.result} (YieldsList-from_slice words cc) (YieldsList-from_slice fours cc)) (λ x b q k. search (rules, tests)) in
+    let far : length bytes ≡ 4 * (length bytes / 4) = omega arith in
+    let e = c.as_chunks.ensures.front in
+    rw (← (words_are bytes (length bytes / 4) far), ← e) (tested ∙ differs_are (from_le_bytes w32) words fours (omega arith))

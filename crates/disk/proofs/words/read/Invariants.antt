@@ -1,12 +1,7 @@
-use mathlib.Core.Path.{◌≡◌}
-use Prim.Native.Nat.{◌-◌, ◌*◌, ◌≤◌}
-use mathlib.Core.List.{◌++◌}
-use lib.ListN.{length, take, drop}
-use Rattle.disk.specs.Bytes.{words_of}
+-- The words so far, with those of the chunks that are left, are all words.
+use Rattle.std.proofs.Common.{◌≡◌, ◌++◌, take, drop, map}
+use Rattle.std.specs.Int.{w32, from_le_bytes}
 use Rattle.disk.proofs.words.read.Given as goal
 
 abbrev pub invariant-loop-i : goal.invariant-loop-i
-invariant-loop-i l = (l.i ≤ length l.words) × (l.at ≡ 4 * l.i) × (length l.words ≡ length l.initial.words) × (take l.i l.words ++ words_of (drop l.at l.bytes) ≡ words_of l.bytes)
-
-abbrev pub decreases-loop-i : goal.decreases-loop-i
-decreases-loop-i l = length l.words - l.i
+invariant-loop-i l = take l.i l.words ++ map (from_le_bytes w32) (drop l.i l.fours) ≡ map (from_le_bytes w32) l.fours
