@@ -123,24 +123,3 @@ impl<'a> View<'a> {
         self.word::<Faults>(i, k)
     }
 }
-
-pub fn bucket_word(w: &[u32], h: Header, b: u32) -> u32
-    requires { Sized w.now h × (b < h.top) }
-    ensures { result ≡ bucket_word (shape_in h) w.now b }
-{
-    View { words: w, header: h }.bucket_word(b)
-}
-
-pub fn card_word(w: &[u32], h: Header, i: u32, k: usize) -> u32
-    requires { Sized w.now h × (1 ≤ i) × (i ≤ h.cards) × (k < h.width) }
-    ensures { result ≡ card_word (shape_in h) w.now i k }
-{
-    View { words: w, header: h }.card_word(i, k)
-}
-
-pub fn fault_word(w: &[u32], h: Header, i: u32, k: usize) -> u32
-    requires { Sized w.now h × (1 ≤ i) × (i ≤ h.faults) × (k < fault_width) }
-    ensures { result ≡ fault_word (shape_in h) w.now i k }
-{
-    View { words: w, header: h }.fault_word(i, k)
-}

@@ -2,7 +2,7 @@
 ghost use Rattle.std.specs.Prelude.{◌≡◌, ◌+◌, ◌*◌, ◌≤◌, ◌<◌};
 ghost use Rattle.model.specs.Serial.{most_bytes};
 ghost use Rattle.model.specs.Layout.{to_serial, serial_words, card_word};
-ghost use Rattle.reads.specs.Cells.{shape_in, Sized, word_bytes, key_at, bytes_at, same_key};
+ghost use Rattle.reads.specs.Cells.{shape_in, word_bytes, key_at, bytes_at, same_key};
 ghost use Rattle.reads.specs.Chains.{has_key};
 
 use crate::cells::View;
@@ -74,11 +74,4 @@ impl<'a> View<'a> {
         let last = last_word(len);
         self.end_word(i, last) == self.end_word(j, last) && self.has_key(i, len, self.key_at(j))
     }
-}
-
-pub fn bytes_at(w: &[u32], h: crate::header::Header, i: u32) -> [u8; 16]
-    requires { Sized w.now h × (1 ≤ i) × (i ≤ h.cards) }
-    ensures { result ≡ bytes_at (shape_in h) w.now i }
-{
-    View { words: w, header: h }.bytes_at(i)
 }

@@ -11,18 +11,18 @@ ghost use Rattle.writer.specs.Table.{MaySplit, MayJoin, segment_set, last_from, 
 
 use crate::writes;
 use reads::header::Header;
-use reads::{cells, header, keys, layout};
+use reads::cells::View;
+use reads::{header, layout};
 
 // Whether the card in cell i goes to the new bucket maxp + p.
-fn moves(w: &[u32], h: Header, i: u32) -> bool
-    requires { Sized w.now h × (1 ≤ h.maxp) × (h.maxp + h.p < top) × (1 ≤ i) × (i ≤ h.cards) }
-    ensures { result ≡ moves_at (shape_in h) w.now h.maxp h.p i }
+fn moves(view: &View, i: u32) -> bool
+    requires { (1 ≤ view.now.header.maxp) × (view.now.header.maxp + view.now.header.p < top) × (1 ≤ i) × (i ≤ view.now.header.cards) }
+    ensures { result ≡ moves_at (shape_in view.now.header) view.now.words.now view.now.header.maxp view.now.header.p i }
 {
-    let maxp = h.maxp;
-    let p = h.p;
-    let len = cells::card_word(w, h, i, layout::TO_LENGTH) as usize;
-    let bytes = keys::bytes_at(w, h, i);
-    let code = rules::serial_code(bytes, len);
+    let maxp = view.header.maxp;
+    let p = view.header.p;
+    let len = view.card_word(i, layout::TO_LENGTH) as usize;
+    let code = rules::serial_code(view.bytes_at(i), len);
     code % (2 * maxp) == maxp + p
 }
 
@@ -35,14 +35,21 @@ fn part(w: &mut [u32], h: Header)
     let maxp = h.maxp;
     let p = h.p;
     let n = maxp + p;
-    let mut x = cells::bucket_word(w, h, p);
+    let mut x = View {
+        words: w,
+        header: h,
+    }
+    .bucket_word(p);
     let mut k: u32 = 0;
     let mut g: u32 = 0;
     // Kept: no plainer, since this goes along a chain of cells by their next words and no index is counted by hand.
     while x != 0 {
-        let old: &[u32] = w;
-        let next = cells::card_word(old, h, x, layout::TO_NEXT);
-        if moves(old, h, x) {
+        let view = View {
+            words: w,
+            header: h,
+        };
+        let next = view.card_word(x, layout::TO_NEXT);
+        if moves(&view, x) {
             writes::link(w, h, n, g, x);
             g = x;
         } else {
@@ -86,16 +93,16 @@ pub fn split(w: &mut [u32], h: Header)
 }
 
 // The last cell of bucket b's chain, 0 for none.
-fn last_of(w: &[u32], h: Header, b: u32) -> u32
-    requires { Sized w.now h × (b < h.top) × Ends h.cards (next_card (shape_in h) w.now) (bucket_word (shape_in h) w.now b) }
-    ensures { result ≡ last_from (shape_in h) w.now (bucket_word (shape_in h) w.now b) }
+fn last_of(view: &View, b: u32) -> u32
+    requires { (b < view.now.header.top) × Ends view.now.header.cards (next_card (shape_in view.now.header) view.now.words.now) (bucket_word (shape_in view.now.header) view.now.words.now b) }
+    ensures { result ≡ last_from (shape_in view.now.header) view.now.words.now (bucket_word (shape_in view.now.header) view.now.words.now b) }
 {
-    let mut i = cells::bucket_word(w, h, b);
+    let mut i = view.bucket_word(b);
     let mut last: u32 = 0;
     // Kept: no plainer, since this goes along a chain of cells by their next words and no index is counted by hand.
     while i != 0 {
         last = i;
-        i = cells::card_word(w, h, i, layout::TO_NEXT);
+        i = view.card_word(i, layout::TO_NEXT);
     }
     last
 }
@@ -110,9 +117,12 @@ pub fn join(w: &mut [u32], h: Header)
     let p = h.p;
     let b = rules::low_p(maxp, p);
     let going = maxp + p - 1;
-    let old: &[u32] = w;
-    let k = last_of(old, h, b);
-    let first = cells::bucket_word(old, h, going);
+    let view = View {
+        words: w,
+        header: h,
+    };
+    let k = last_of(&view, b);
+    let first = view.bucket_word(going);
     writes::link(w, h, b, k, first);
     writes::put_bucket(w, h, going, 0);
     set_segment(w, h, going, 0);

@@ -11,9 +11,9 @@ ghost use Rattle.reads.specs.Cells.{shape_in, Sized, width_of, limit_of};
 ghost use Rattle.reads.specs.Chains.{Ends};
 ghost use Rattle.writer.specs.Writes.{place_at, MayPlace, MayFile, MayRemove};
 
-use reads::cells::{Cards, Faults, Part};
+use reads::cells::{Cards, Faults, Part, View};
 use reads::header::Header;
-use reads::{cells, layout, serial};
+use reads::{layout, serial};
 
 // The word of bucket b, in the segment part.
 fn set_bucket(segments: &mut [u32], b: u32, v: u32)
@@ -99,7 +99,11 @@ pub fn place(w: &mut [u32], h: Header, b: u32, last: u32, serial: [u8; 16], len:
     ensures { w.new ≡ place_words (shape_in h) w.old b last (take len serial) }
 {
     let new = w[layout::FREE_AT];
-    let next = cells::card_word(w, h, new, layout::TO_NEXT);
+    let view = View {
+        words: w,
+        header: h,
+    };
+    let next = view.card_word(new, layout::TO_NEXT);
     let held = w[layout::HELD_AT] + 1;
     let words = card_words(serial, len);
     w[layout::FREE_AT] = next;
@@ -136,10 +140,14 @@ pub fn file_at(w: &mut [u32], h: Header, cell: u32, day: u32, code: u32)
     ensures { w.new ≡ file_words (shape_in h) w.old cell day code }
 {
     let old: &[u32] = w;
+    let view = View {
+        words: old,
+        header: h,
+    };
     let new = old[layout::FREE_FAULTS_AT];
-    let next = cells::fault_word(old, h, new, layout::TO_NEXT);
-    let last = cells::card_word(old, h, cell, layout::TO_LAST);
-    let count = cells::card_word(old, h, cell, layout::TO_COUNT) + 1;
+    let next = view.fault_word(new, layout::TO_NEXT);
+    let last = view.card_word(cell, layout::TO_LAST);
+    let count = view.card_word(cell, layout::TO_COUNT) + 1;
     let held = old[layout::FAULTS_HELD_AT] + 1;
     w[layout::FREE_FAULTS_AT] = next;
     put_cell::<Faults>(w, h, new, &[0, day, code]);
@@ -155,7 +163,11 @@ fn clear_history(w: &mut [u32], h: Header, first: u32)
     let mut i = first;
     // Kept: no plainer, since this goes along a chain of cells by their next words and no index is counted by hand.
     while i != 0 {
-        let next = cells::fault_word(w, h, i, layout::TO_NEXT);
+        let view = View {
+            words: w,
+            header: h,
+        };
+        let next = view.fault_word(i, layout::TO_NEXT);
         put::<Faults>(w, h, i, layout::TO_DAY, 0);
         put::<Faults>(w, h, i, layout::TO_CODE, 0);
         i = next;
@@ -192,10 +204,14 @@ pub fn remove_at(w: &mut [u32], h: Header, b: u32, prev: u32, cell: u32)
     ensures { w.new ≡ remove_words (shape_in h) w.old b prev cell }
 {
     let old: &[u32] = w;
-    let next = cells::card_word(old, h, cell, layout::TO_NEXT);
-    let first = cells::card_word(old, h, cell, layout::TO_FIRST);
-    let last = cells::card_word(old, h, cell, layout::TO_LAST);
-    let count = cells::card_word(old, h, cell, layout::TO_COUNT);
+    let view = View {
+        words: old,
+        header: h,
+    };
+    let next = view.card_word(cell, layout::TO_NEXT);
+    let first = view.card_word(cell, layout::TO_FIRST);
+    let last = view.card_word(cell, layout::TO_LAST);
+    let count = view.card_word(cell, layout::TO_COUNT);
     let free = old[layout::FREE_AT];
     let cards = old[layout::HELD_AT] - 1;
     let faults = old[layout::FAULTS_HELD_AT] - count;

@@ -17,7 +17,7 @@ gone : (s : Start) → s.args.h.maxp + s.args.h.p - 1 < s.args.h.top
 gone s = omega (arith, s.requires.room, s.requires.some)
 
 pub last_of-k-requires : goal.last_of-k-requires
-last_of-k-requires c = let p = c.requires in (p.read.sized, below c, rw c.low_p-b.ensures p.chain)
+last_of-k-requires c = let p = c.requires in (below (goal.at.last_of-k-requires c).After-low_p-b, rw c.low_p-b.ensures p.chain)
 
 pub link-requires : goal.link-requires
 link-requires c =
@@ -54,4 +54,4 @@ pub overflow_sub-going : goal.overflow_sub-going
 overflow_sub-going c = omega (arith, c.requires.some)
 
 pub bucket_word-first-requires : goal.bucket_word-first-requires
-bucket_word-first-requires c = (c.requires.read.sized, gone (goal.at.bucket_word-first-requires c).Start)
+bucket_word-first-requires c = gone (goal.at.bucket_word-first-requires c).Start

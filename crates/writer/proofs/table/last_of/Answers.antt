@@ -14,10 +14,10 @@ use Rattle.writer.proofs.table.last_of.Goals as goal
 
 pub loop-i-init : goal.loop-i-init
 unfolding last_from
-loop-i-init c = rw c.bucket_word-i.ensures (c.requires.2, last_after_none _)
+loop-i-init c = rw c.bucket_word-i.ensures (c.requires.1, last_after_none _)
 
 pub card_word-i-requires : goal.card_word-i-requires
-card_word-i-requires c = let h = ends_here c.loop-i.invariant.0 c.loop-i-test.true in let s = c.requires.0 in (s, h.0, h.1, word_in s to_next (lit< tt))
+card_word-i-requires c = let h = ends_here c.loop-i.invariant.0 c.loop-i-test.true in let s = c.args.view.now.sized in (h.0, h.1, word_in s to_next (lit< tt))
 
 pub loop-i-smaller : goal.loop-i-smaller
 loop-i-smaller c = rw c.card_word-i.ensures (ends_less c.loop-i.invariant.0 c.loop-i-test.true)
@@ -33,4 +33,4 @@ unfolding last
 returns c = ap (λ (l : List ℕ). last (c.loop-i.last ∷ l)) (sym (follow_none _ _ _ c.loop-i-test.false)) ∙ c.loop-i.invariant.1
 
 pub bucket_word-i-requires : goal.bucket_word-i-requires
-bucket_word-i-requires c = let p = c.requires in (p.0, p.1)
+bucket_word-i-requires c = c.requires.0

@@ -9,7 +9,7 @@ use Rattle.reads.specs.Cells.{shape_in}
 use Rattle.writer.proofs.table.last_of.Given as goal
 
 abbrev pub invariant-loop-i : goal.invariant-loop-i
-invariant-loop-i l = Ends l.h.cards (next_card (shape_in l.h) l.w) l.i × (last (l.last ∷ follow l.h.cards (next_card (shape_in l.h) l.w) l.i) ≡ last_from (shape_in l.h) l.w (bucket_word (shape_in l.h) l.w l.b))
+invariant-loop-i l = Ends l.view.header.cards (next_card (shape_in l.view.header) l.view.words.now) l.i × (last (l.last ∷ follow l.view.header.cards (next_card (shape_in l.view.header) l.view.words.now) l.i) ≡ last_from (shape_in l.view.header) l.view.words.now (bucket_word (shape_in l.view.header) l.view.words.now l.b))
 
 abbrev pub decreases-loop-i : goal.decreases-loop-i
-decreases-loop-i l = length (follow l.h.cards (next_card (shape_in l.h) l.w) l.i)
+decreases-loop-i l = length (follow l.view.header.cards (next_card (shape_in l.view.header) l.view.words.now) l.i)

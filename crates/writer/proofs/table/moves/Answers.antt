@@ -6,4 +6,4 @@ use Rattle.writer.proofs.table.moves.Goals as goal
 
 pub returns : goal.returns
 unfolding moves_at serial_in bytes_in bytes_at
-returns c = rw (c.serial_code-code.ensures, c.bytes_at-bytes.ensures, c.card_word-len.ensures)
+returns c = rw (c.serial_code-code.ensures, c.bytes_at.ensures, c.card_word-len.ensures)

@@ -27,10 +27,10 @@ pub loop-x-init : goal.loop-x-init
 loop-x-init c = part_start c.requires c.bucket_word-x.ensures
 
 pub card_word-next-requires : goal.card_word-next-requires
-card_word-next-requires c = (c.loop-x.invariant.sized, (cell c).0, (cell c).1, word_in c.loop-x.invariant.sized to_next (lit< tt))
+card_word-next-requires c = ((cell (goal.at.card_word-next-requires c).In-loop-x).0, (cell (goal.at.card_word-next-requires c).In-loop-x).1, word_in c.loop-x.invariant.sized to_next (lit< tt))
 
 pub moves-requires : goal.moves-requires
-moves-requires c = (c.loop-x.invariant.sized, c.requires.some, lt_of_lt_of_le c.requires.room c.loop-x.invariant.sized.room.most, (cell (goal.at.moves-requires c).In-loop-x).0, (cell (goal.at.moves-requires c).In-loop-x).1)
+moves-requires c = (c.requires.some, lt_of_lt_of_le c.requires.room c.loop-x.invariant.sized.room.most, (cell (goal.at.moves-requires c).In-loop-x).0, (cell (goal.at.moves-requires c).In-loop-x).1)
 
 pub link-requires : goal.link-requires
 link-requires c =
@@ -79,4 +79,4 @@ pub overflow_add-n : goal.overflow_add-n
 overflow_add-n c = omega (arith, c.requires.room, c.requires.read.sized.room.most)
 
 pub bucket_word-x-requires : goal.bucket_word-x-requires
-bucket_word-x-requires c = (c.requires.read.sized, below (goal.at.bucket_word-x-requires c).Start)
+bucket_word-x-requires c = below (goal.at.bucket_word-x-requires c).Start

@@ -17,7 +17,7 @@ cell : (i : In-loop-i) → (1 ≤ i.loop-i.i) × (i.loop-i.i ≤ i.args.h.faults
 cell i = ends_here i.loop-i.invariant.ends i.loop-i-test.true
 
 pub fault_word-next-requires : goal.fault_word-next-requires
-fault_word-next-requires c = let h = cell c in (c.loop-i.invariant.sized, h.0, h.1, omega arith)
+fault_word-next-requires c = let h = cell (goal.at.fault_word-next-requires c).In-loop-i in (h.0, h.1, omega arith)
 
 pub put-requires : goal.put-requires
 put-requires c = let h = cell (goal.at.put-requires c).In-loop-i in fault_put c.loop-i.invariant.sized h.0 h.1 to_day (lit< tt)

@@ -38,13 +38,13 @@ pub bounds-old-8 : goal.bounds-old-8
 bounds-old-8 c = head_in_lem c.requires.sized free_faults_at (lit< tt) refl
 
 pub fault_word-next-requires : goal.fault_word-next-requires
-fault_word-next-requires c = let p = c.requires in (p.sized, p.free, p.within, lit< tt)
+fault_word-next-requires c = let p = c.requires in (p.free, p.within, lit< tt)
 
 pub card_word-last-requires : goal.card_word-last-requires
-card_word-last-requires c = let p = c.requires in (p.sized, p.card, p.inside, word_in p.sized to_last (lit< tt))
+card_word-last-requires c = let p = c.requires in (p.card, p.inside, word_in p.sized to_last (lit< tt))
 
 pub card_word-count-requires : goal.card_word-count-requires
-card_word-count-requires c = let p = c.requires in (p.sized, p.card, p.inside, word_in p.sized to_count (lit< tt))
+card_word-count-requires c = let p = c.requires in (p.card, p.inside, word_in p.sized to_count (lit< tt))
 
 pub overflow_add-count : goal.overflow_add-count
 overflow_add-count c = let p = c.requires in omega (arith, c.card_word-count.ensures, p.count, p.sized.room.most_faults)

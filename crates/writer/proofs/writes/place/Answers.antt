@@ -39,7 +39,7 @@ pub bounds-w-7 : goal.bounds-w-7
 bounds-w-7 c = head_in_lem c.requires.0.sized free_at (lit< tt) refl
 
 pub card_word-next-requires : goal.card_word-next-requires
-card_word-next-requires c = let p = c.requires.0 in (p.sized, p.free, p.within, word_in p.sized to_next (lit< tt))
+card_word-next-requires c = let p = c.requires.0 in (p.free, p.within, word_in p.sized to_next (lit< tt))
 
 pub bounds-w-5 : goal.bounds-w-5
 bounds-w-5 c = head_in_lem c.requires.0.sized held_at (lit< tt) refl

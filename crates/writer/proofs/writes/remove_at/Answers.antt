@@ -45,16 +45,16 @@ returns c =
     c.give_back.ensures c.link.ensures c.free_card.ensures
 
 pub card_word-next-requires : goal.card_word-next-requires
-card_word-next-requires c = let p = c.requires in (p.sized, p.card, p.inside, word_in p.sized to_next (lit< tt))
+card_word-next-requires c = let p = c.requires in (p.card, p.inside, word_in p.sized to_next (lit< tt))
 
 pub card_word-first-requires : goal.card_word-first-requires
-card_word-first-requires c = let p = c.requires in (p.sized, p.card, p.inside, word_in p.sized to_first (lit< tt))
+card_word-first-requires c = let p = c.requires in (p.card, p.inside, word_in p.sized to_first (lit< tt))
 
 pub card_word-last-requires : goal.card_word-last-requires
-card_word-last-requires c = let p = c.requires in (p.sized, p.card, p.inside, word_in p.sized to_last (lit< tt))
+card_word-last-requires c = let p = c.requires in (p.card, p.inside, word_in p.sized to_last (lit< tt))
 
 pub card_word-count-requires : goal.card_word-count-requires
-card_word-count-requires c = let p = c.requires in (p.sized, p.card, p.inside, word_in p.sized to_count (lit< tt))
+card_word-count-requires c = let p = c.requires in (p.card, p.inside, word_in p.sized to_count (lit< tt))
 
 pub bounds-old-7 : goal.bounds-old-7
 bounds-old-7 c = head_in_lem c.requires.sized free_at (lit< tt) refl
