@@ -66,8 +66,10 @@ fn directory_fits(w: &[u32], h: Header, b: u32) -> bool
     ensures { result ≡ directory_fits (shape_in h) w.now b }
 {
     let segments = h.segments as u32;
-    (0..h.top / layout::SEGMENT_SIZE).all(|k| header::word(w, layout::DIRECTORY_AT + k as usize)
-        == entry_for(segments, b, k))
+    (0..h.top / layout::SEGMENT_SIZE).all(|k| {
+        let entry = header::word(w, layout::DIRECTORY_AT + k as usize);
+        entry == entry_for(segments, b, k)
+    })
 }
 
 // The words of buckets from b on are zero.
