@@ -1,7 +1,8 @@
 -- The walk of a chain over marks, of any kind of cell: cells are numbers from 1, `next` gives the cell after a cell, 0 for none,
 -- and `good` is what a cell has to be by itself.
-use Rattle.std.specs.Prelude.{◌≡◌, Bool, true, false, cond, not, ◌&&◌, List, [], ◌∷◌, ℕ, zero, suc, ◌+◌, ◌-◌, eqb, leb}
+use Rattle.std.specs.Prelude.{◌≡◌, Bool, true, false, cond, not, ◌&&◌, List, [], ◌∷◌, ℕ, zero, suc, ◌+◌, ◌-◌, eqb, leb, Option, None, Some}
 use Rattle.checker.specs.Marks.{mark_at, marked_at}
+use Rattle.checker.specs.declared.walks.Walked.{Walked}
 
 -- the number that cell i is marked by
 abbrev pub number_of : ℕ → ℕ → ℕ
@@ -68,3 +69,12 @@ pub record DidAll (o : Tot) (ok : Bool) (total : ℕ) (left : List ℕ) : Type 0
   pub ok_is : ok ≡ o.ok
   pub total_is : total ≡ o.total
   pub left_is : left ≡ o.bytes
+
+-- the same of a walk that answers what it met, or None where it was refused
+abbrev pub DidWalk : Out → Option Walked → List ℕ → Type 0
+DidWalk o None left = Did o false 0 0 left
+DidWalk o (Some t) left = Did o true t.count t.last left
+
+abbrev pub DidWalks : Tot → Option ℕ → List ℕ → Type 0
+DidWalks o None left = DidAll o false 0 left
+DidWalks o (Some n) left = DidAll o true n left

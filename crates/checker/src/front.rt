@@ -65,10 +65,10 @@ fn directory_fits(view: &View, b: u32) -> bool
     ensures { result ≡ directory_fits (shape_in view.now.header) view.now.words.now b }
 {
     let segments = view.header.segments as u32;
-    (0..view.header.top / layout::SEGMENT_SIZE).all(|k| header::word(
-        view.words,
-        layout::DIRECTORY_AT + k as usize,
-    ) == entry_for(segments, b, k))
+    (0..view.header.top / layout::SEGMENT_SIZE).all(|k| {
+        let entry = header::word(view.words, layout::DIRECTORY_AT + k as usize);
+        entry == entry_for(segments, b, k)
+    })
 }
 
 // The words of buckets from b on are zero.

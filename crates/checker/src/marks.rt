@@ -18,8 +18,7 @@ pub fn mark(scratch: &mut [u8], k: usize)
     ensures { scratch.new ≡ marked_at scratch.old k }
 {
     let mask: u8 = 1 << (k % 8);
-    let at = k / 8;
-    scratch[at] |= mask;
+    scratch[k / 8] |= mask;
 }
 
 // The first n bytes are zero, and the rest is as it was.

@@ -2,16 +2,21 @@
 ghost use Rattle.std.specs.Prelude.{◌≡◌, ◌≤◌, ◌<◌};
 ghost use Rattle.reads.specs.Cells.{shape_in, limit_of};
 ghost use Rattle.checker.specs.Fits.{Suits, cell_fits};
-ghost use Rattle.checker.specs.Walk.{may_come};
-ghost use Rattle.checker.specs.Answers.{DidWalk, DidWalks};
+ghost use Rattle.checker.specs.Walk.{may_come, DidWalk, DidWalks};
 ghost use Rattle.checker.specs.Checker.{Asks, base_of, chain_of, first_of, reach_of, walk_in, chains_of};
 
 use crate::chained::Chained;
 use crate::fits::Chain;
-use crate::walked::Walked;
 use crate::{fits, marks};
 use reads::cells::View;
 use reads::layout;
+
+// What a walk that came to the end of its chain met: how many cells, and which was the last, 0 for none.
+#[derive(Clone, Copy, PartialEq, Eq, Debug)]
+pub struct Walked {
+    pub count: u32,
+    pub last: u32,
+}
 
 // Whether cell i may come next in a chain.
 fn may_come<P: Chained>(view: &View, scratch: &[u8], chain: Chain, i: u32) -> bool

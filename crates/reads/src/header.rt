@@ -38,7 +38,7 @@ pub fn wide_word(w: &[u32], at: usize) -> usize
     requires { at < length w.now }
     ensures { result ≡ get_or w.now at 0 }
 {
-    w[at] as usize
+    word(w, at) as usize
 }
 
 // The shape that words tell.

@@ -141,6 +141,7 @@ pub fn shape_for(cards: u32, faults: u32, upper: u32, lower: u32) -> Shape
 }
 
 // The bounds that a format and a word 14 tell.
+// Kept: one function for both is no plainer, since each takes the other part of the word and has another bound for format 1.
 pub fn upper_by(format: u32, word: u32) -> u32
     ensures { result ≡ upper_by format word }
 {
