@@ -15,6 +15,7 @@ pub const LEAST: u32 = 16;
 pub const TOP: u32 = 256;
 
 // The address where (maxp, p) is no state of the table.
+// Kept: the C interface gives it as a number, so that it is no Option.
 const NO_ADDRESS: u32 = 4294967295;
 
 // The code with one byte more: 33 times the code by wrapping additions, and the byte added last.
@@ -43,6 +44,7 @@ pub extern "C" fn reader_code(bytes: &[u8]) -> u32
 }
 
 // The code of a serial that travels as sixteen bytes and its length; a length past 16 counts as 16.
+// Kept: a rule of the project, that a serial travels as `[u8; 16]` by value beside its length.
 pub fn serial_code(serial: [u8; 16], len: usize) -> u32
     ensures { result ≡ code_of (take len serial) }
 {
@@ -50,6 +52,7 @@ pub fn serial_code(serial: [u8; 16], len: usize) -> u32
 }
 
 // Whether (maxp, p) is a state of a table of at most `top` buckets.
+// Kept: no plainer, since two numbers that may be no state are no `State` yet.
 #[tactic(auto, unfolding(crate::specs::Table::state_ok, crate::specs::Table::size_ok))]
 pub fn state_ok(top: u32, maxp: u32, p: u32) -> bool
     ensures { result ≡ state_ok top maxp p }
@@ -61,6 +64,7 @@ pub fn state_ok(top: u32, maxp: u32, p: u32) -> bool
 }
 
 // The address of a code, or 4294967295 where (maxp, p) is no state of the table.
+// Kept: the C interface passes maxp and p as two numbers.
 #[tactic(auto, unfolding(crate::specs::Table::address_of, crate::specs::Table::bucket_of, crate::specs::Table::state_ok, crate::specs::Table::size_ok))]
 #[unsafe(no_mangle)]
 pub extern "C" fn reader_address(code: u32, maxp: u32, p: u32) -> u32
@@ -73,6 +77,8 @@ pub extern "C" fn reader_address(code: u32, maxp: u32, p: u32) -> u32
         NO_ADDRESS
     }
 }
+
+// Kept: no plainer, since each of the next five reads other ones of the bounds, and a struct of all three says less of what it reads.
 
 // Whether n cards in b buckets call for a split: more than `upper` a bucket, and fewer than `top` buckets.
 #[tactic(auto, unfolding(crate::specs::Table::splits))]
@@ -110,6 +116,51 @@ pub fn load_fits(top: u32, upper: u32, lower: u32, n: u32, b: u32) -> bool
     ensures { result ≡ load_fits top upper lower n b }
 {
     not_over(top, upper, n, b) && not_under(lower, n, b)
+}
+
+// The state of a table, which has maxp + p buckets.
+#[derive(Clone, Copy, PartialEq, Eq, Debug)]
+pub struct State {
+    pub maxp: u32,
+    pub p: u32,
+}
+
+impl State {
+    // The state with one bucket more: p grows by 1; if p = maxp, maxp doubles and p is 0.
+    #[tactic(auto, unfolding(crate::specs::Table::high_maxp, crate::specs::Table::high_p))]
+    pub fn grown(self) -> State
+        requires { self.maxp + self.p < top }
+        ensures maxp { result.maxp ≡ high_maxp self.maxp self.p }
+        ensures p { result.p ≡ high_p self.maxp self.p }
+    {
+        let State { maxp, p } = self;
+        if p + 1 == maxp {
+            State {
+                maxp: 2 * maxp,
+                p: 0,
+            }
+        } else {
+            State { maxp, p: p + 1 }
+        }
+    }
+
+    // The state with one bucket less: p falls by 1; if it was 0, maxp halves and p is the new maxp - 1.
+    #[tactic(auto, unfolding(crate::specs::Table::low_maxp, crate::specs::Table::low_p))]
+    pub fn shrunk(self) -> State
+        ensures maxp { result.maxp ≡ low_maxp self.maxp self.p }
+        ensures p { result.p ≡ low_p self.maxp self.p }
+    {
+        let State { maxp, p } = self;
+        if p == 0 {
+            let half = maxp / 2;
+            State {
+                maxp: half,
+                p: half.saturating_sub(1),
+            }
+        } else {
+            State { maxp, p: p - 1 }
+        }
+    }
 }
 
 // The state with one bucket more: p grows by 1; if p = maxp, maxp doubles and p is 0.
