@@ -1,253 +1,155 @@
 // The script: each line is done and told.
 use crate::lays::Series;
-use crate::{asks, lays, numbered, reports};
-use script::lines;
+use crate::reports::Steps;
+use crate::{asks, lays, reports};
+use script::calls::{Kind, Terms};
+use script::lines::Line;
+use script::words;
 use std::io;
 
-// The words of the run, the lengths in the list, where the store that joined last begins, the bytes of scratch and of output, and
-// what these hold before a report.
-#[derive(Clone, Copy)]
-pub struct Desk {
-    pub run: u32,
-    pub listed: u32,
-    pub last: u32,
-    pub scratch: u32,
-    pub out: u32,
-    pub from: u32,
-    pub step: u32,
-}
-
-// ---- lines that lay a run
-
-// A store of so many words joins the run, and its length the list.
-fn joined(lengths: &mut [u32], len: u32, mut d: Desk) -> Desk {
-    lays::set(lengths, d.listed, len);
-    d.last = d.run;
-    d.run = numbered::next_word(d.run, len);
-    d.listed = numbered::next_word(d.listed, 1);
-    d
+// The buffers, and what is lent of them.
+// Kept: what may not change, that a line `C` copies words that stand behind the run's end, so that the run is no slice of its own.
+#[derive(Drop)]
+pub struct Desk<'a> {
+    words: &'a mut [u32],
+    lengths: &'a mut [u32],
+    scratch: &'a mut [u8],
+    out: &'a mut [u8],
+    run: u32,
+    listed: u32,
+    last: u32,
+    scratch_len: u32,
+    out_len: u32,
+    filled: Steps,
 }
 
 // The words of a store with such limits.
-fn length_for(cards: u32, faults: u32) -> u32 {
-    288 + 9 * (cards % 1025) + 3 * (faults % 2049)
+fn length_for(terms: Terms) -> u32 {
+    288 + 9 * (terms.cards % 1025) + 3 * (terms.faults % 2049)
 }
 
-fn open(
-    rt: &impl Print,
-    line: &[u8],
-    words: &mut [u32],
-    lengths: &mut [u32],
-    d: Desk,
-) -> io::Result<Desk> {
-    let cards = lines::number_at(line, 1);
-    let faults = lines::number_at(line, 2);
-    let upper = lines::number_at(line, 3);
-    let lower = lines::number_at(line, 4);
-    let len = length_for(cards, faults);
-    let b = lines::least(numbered::next_word(d.run, len) as usize, words.len());
-    let a = lines::least(d.run as usize, b);
-    lines::put(rt, b":")?;
-    lines::put_next(
-        rt,
-        store::open(&mut words[a..b], cards, faults, upper, lower),
-    )?;
-    Ok(joined(lengths, len, d))
-}
-
-fn copy(line: &[u8], words: &mut [u32], lengths: &mut [u32], d: Desk) -> Desk {
-    let len = lines::number_at(line, 2);
-    lays::copy(words, lines::number_at(line, 1), d.run, len);
-    joined(lengths, len, d)
-}
-
-fn resize_run(line: &[u8], words: &mut [u32], mut d: Desk) -> Desk {
-    let n = lines::number_at(line, 1);
-    lays::clear(words, d.run, n);
-    d.run = n;
-    d
-}
-
-fn resize_list(line: &[u8], lengths: &mut [u32], mut d: Desk) -> Desk {
-    let n = lines::number_at(line, 1);
-    lays::clear(lengths, d.listed, n);
-    d.listed = n;
-    d
-}
-
-fn new_run(mut d: Desk) -> Desk {
-    d.run = 0;
-    d.listed = 0;
-    d.last = 0;
-    d
-}
-
-fn patch(line: &[u8], words: &mut [u32]) {
-    let first = Series {
-        at: lines::number_at(line, 1),
-        stride: lines::number_at(line, 3),
-        value: lines::number_at(line, 4),
-        step: lines::number_at(line, 5),
-    };
-    lays::patch(words, lines::number_at(line, 2), first);
-}
-
-fn set_length(line: &[u8], lengths: &mut [u32]) {
-    let at = lines::number_at(line, 1);
-    lays::set(lengths, at, lines::number_at(line, 2));
-}
-
-// ---- lines that set what is lent
-
-fn sized(line: &[u8], mut d: Desk) -> Desk {
-    let n = lines::number_at(line, 1);
-    match lines::letter(line) {
-        b'B' => {
-            d.scratch = n;
+impl<'a> Desk<'a> {
+    pub fn new(
+        words: &'a mut [u32],
+        lengths: &'a mut [u32],
+        scratch: &'a mut [u8],
+        out: &'a mut [u8],
+    ) -> Desk<'a> {
+        Desk {
+            words,
+            lengths,
+            scratch,
+            out,
+            run: 0,
+            listed: 0,
+            last: 0,
+            scratch_len: 0,
+            out_len: 0,
+            filled: Steps { from: 0, step: 0 },
         }
-        b'T' => {
-            d.out = n;
-        }
-        b'V' => {
-            d.from = n;
-            d.step = lines::number_at(line, 2);
-        }
-        _ => {}
     }
-    d
-}
 
-// ---- lines that call
-
-// A call on the store that joined last.
-fn call(rt: &impl Print, line: &[u8], words: &mut [u32], d: Desk) -> io::Result<()> {
-    let b = lines::least(d.run as usize, words.len());
-    let a = lines::least(d.last as usize, b);
-    lines::put(rt, b":")?;
-    lines::put_next(rt, asks::one(line, &mut words[a..b]))
-}
-
-fn calls(rt: &impl Print, line: &[u8], words: &mut [u32], d: Desk) -> io::Result<()> {
-    let b = lines::least(d.run as usize, words.len());
-    let a = lines::least(d.last as usize, b);
-    lines::put(rt, b":")?;
-    lines::put_next(rt, asks::many(line, &mut words[a..b]))
-}
-
-fn report(
-    rt: &impl Print,
-    words: &[u32],
-    lengths: &[u32],
-    scratch: &mut [u8],
-    out: &mut [u8],
-    d: Desk,
-) -> io::Result<()> {
-    let a = lines::least(d.run as usize, words.len());
-    let b = lines::least(d.listed as usize, lengths.len());
-    let c = lines::least(d.scratch as usize, scratch.len());
-    let e = lines::least(d.out as usize, out.len());
-    reports::make(
-        rt,
-        &words[..a],
-        &lengths[..b],
-        &mut scratch[..c],
-        &mut out[..e],
-        d.from,
-        d.step,
-    )
-}
-
-// ---- every line
-
-// A line that lays a run; any other leaves it.
-fn laid(
-    rt: &impl Print,
-    line: &[u8],
-    words: &mut [u32],
-    lengths: &mut [u32],
-    d: Desk,
-) -> io::Result<Desk> {
-    match lines::letter(line) {
-        b'N' => {
-            return Ok(new_run(d));
-        }
-        b'O' => {
-            return open(rt, line, words, lengths, d);
-        }
-        b'C' => {
-            return Ok(copy(line, words, lengths, d));
-        }
-        b'Z' => {
-            return Ok(resize_run(line, words, d));
-        }
-        b'M' => {
-            return Ok(resize_list(line, lengths, d));
-        }
-        b'P' => patch(line, words),
-        b'L' => set_length(line, lengths),
-        _ => {}
+    // One line, with its echo.
+    pub fn turn(&mut self, rt: &impl Print, line: Line) -> io::Result<()> {
+        rt.write_all(line.bytes)?;
+        self.lay(line);
+        self.call(rt, line)?;
+        rt.write_all(b"\n")
     }
-    Ok(d)
-}
 
-// A line that calls; any other is only echoed.
-fn called(
-    rt: &impl Print,
-    line: &[u8],
-    words: &mut [u32],
-    lengths: &[u32],
-    scratch: &mut [u8],
-    out: &mut [u8],
-    d: Desk,
-) -> io::Result<()> {
-    match lines::letter(line) {
-        b'E' | b'F' | b'W' => call(rt, line, words, d),
-        b'e' | b'f' | b'w' => calls(rt, line, words, d),
-        b'R' => report(rt, words, lengths, scratch, out, d),
-        _ => Ok(()),
+    // A line that lays a run or sets what is lent; any other leaves it.
+    fn lay(&mut self, line: Line) {
+        match line.letter() {
+            b'N' => self.new_run(),
+            b'C' => self.copy(line),
+            b'Z' => self.resize_run(line.number(1)),
+            b'M' => self.resize_list(line.number(1)),
+            b'P' => lays::patch(self.words, line.number(2), Series::of_line(line)),
+            b'L' => words::set(self.lengths, line.number(1) as usize, line.number(2)),
+            b'B' => self.scratch_len = line.number(1),
+            b'T' => self.out_len = line.number(1),
+            b'V' => {
+                self.filled = Steps {
+                    from: line.number(1),
+                    step: line.number(2),
+                }
+            }
+            _ => {}
+        }
     }
-}
 
-// One line, with its echo.
-fn turn(
-    rt: &impl Print,
-    line: &[u8],
-    words: &mut [u32],
-    lengths: &mut [u32],
-    scratch: &mut [u8],
-    out: &mut [u8],
-    d: Desk,
-) -> io::Result<Desk> {
-    lines::put(rt, line)?;
-    let e = sized(line, laid(rt, line, words, lengths, d)?);
-    called(rt, line, words, lengths, scratch, out, e)?;
-    lines::put(rt, b"\n")?;
-    Ok(e)
-}
-
-pub fn run(
-    rt: &impl Print,
-    script: &[u8],
-    words: &mut [u32],
-    lengths: &mut [u32],
-    scratch: &mut [u8],
-    out: &mut [u8],
-) -> io::Result<()> {
-    let mut d = Desk {
-        run: 0,
-        listed: 0,
-        last: 0,
-        scratch: 0,
-        out: 0,
-        from: 0,
-        step: 0,
-    };
-    let mut at: usize = 0;
-    while at < script.len() {
-        let end = lines::line_end(script, at);
-        let line = &script[at..end];
-        d = turn(rt, line, words, lengths, scratch, out, d)?;
-        at = lines::past(end, script.len());
+    // A line that calls; any other is only echoed.
+    fn call(&mut self, rt: &impl Print, line: Line) -> io::Result<()> {
+        match line.letter() {
+            b'O' => self.open(rt, line),
+            b'E' => self.one(rt, line, Kind::Enter),
+            b'F' => self.one(rt, line, Kind::File),
+            b'W' => self.one(rt, line, Kind::Withdraw),
+            b'e' => self.many(rt, line, Kind::Enter),
+            b'f' => self.many(rt, line, Kind::File),
+            b'w' => self.many(rt, line, Kind::Withdraw),
+            b'R' => self.report(rt),
+            _ => Ok(()),
+        }
     }
-    Ok(())
+
+    fn new_run(&mut self) {
+        self.run = 0;
+        self.listed = 0;
+        self.last = 0;
+    }
+
+    // A store of so many words joins the run, and its length the list.
+    fn join(&mut self, len: u32) {
+        words::set(self.lengths, self.listed as usize, len);
+        self.last = self.run;
+        self.run = self.run.wrapping_add(len);
+        self.listed = self.listed.wrapping_add(1);
+    }
+
+    fn copy(&mut self, line: Line) {
+        let len = line.number(2);
+        lays::copy(self.words, line.number(1), self.run, len);
+        self.join(len);
+    }
+
+    fn resize_run(&mut self, n: u32) {
+        lays::clear(self.words, self.run, n);
+        self.run = n;
+    }
+
+    fn resize_list(&mut self, n: u32) {
+        lays::clear(self.lengths, self.listed, n);
+        self.listed = n;
+    }
+
+    fn open(&mut self, rt: &impl Print, line: Line) -> io::Result<()> {
+        let terms = Terms::of_line(line);
+        let len = length_for(terms);
+        let words = lays::part(self.words, self.run, self.run.wrapping_add(len));
+        let number = terms.open(words);
+        self.join(len);
+        print!(rt; ": {number}")
+    }
+
+    // Calls on the store that joined last.
+    fn one(&mut self, rt: &impl Print, line: Line, kind: Kind) -> io::Result<()> {
+        let words = lays::part(self.words, self.last, self.run);
+        let number = asks::one(line, kind, words);
+        print!(rt; ": {number}")
+    }
+
+    fn many(&mut self, rt: &impl Print, line: Line, kind: Kind) -> io::Result<()> {
+        let words = lays::part(self.words, self.last, self.run);
+        let done = asks::many(line, kind, words);
+        print!(rt; ": {done}")
+    }
+
+    fn report(&mut self, rt: &impl Print) -> io::Result<()> {
+        let words = lays::part(self.words, 0, self.run);
+        let lengths = lays::part(self.lengths, 0, self.listed);
+        let scratch = lays::part(self.scratch, 0, self.scratch_len);
+        let out = lays::part(self.out, 0, self.out_len);
+        reports::make(rt, words, lengths, scratch, out, self.filled)
+    }
 }

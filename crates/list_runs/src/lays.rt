@@ -1,60 +1,57 @@
 // Words and lengths laid by hand.
-use crate::numbered;
+use script::lines::Line;
+use script::words::{set, word};
 
-// A word is set, if it is there.
-pub fn set(words: &mut [u32], at: u32, value: u32) {
-    let i = at as usize;
-    if i < words.len() {
-        words[i] = value;
-    }
+// What stands from one place to another, as far as it is there.
+pub fn part<T>(items: &mut [T], from: u32, to: u32) -> &mut [T] {
+    let to = (to as usize).min(items.len());
+    let from = (from as usize).min(to);
+    &mut items[from..to]
 }
 
 // The words from one place to another are 0.
 pub fn clear(words: &mut [u32], from: u32, to: u32) {
-    let mut at = from;
-    while at < to {
-        set(words, at, 0);
-        at += 1;
-    }
+    part(words, from, to).fill(0);
 }
 
-// A word, or 0 where there is none.
-fn word(words: &[u32], at: u32) -> u32 {
-    let i = at as usize;
-    if i < words.len() { words[i] } else { 0 }
-}
-
-// So many words are copied from one place to another, the first one first.
+// So many words are copied from one place to another, the first one first; one that is not there is 0.
 pub fn copy(words: &mut [u32], from: u32, to: u32, count: u32) {
-    let mut a = from;
-    let mut b = to;
-    let mut k: u32 = 0;
-    while k < count {
-        let value = word(words, a);
-        set(words, b, value);
-        a = numbered::next_word(a, 1);
-        b = numbered::next_word(b, 1);
-        k += 1;
+    for k in 0..count {
+        let value = word(words, from.wrapping_add(k) as usize);
+        set(words, to.wrapping_add(k) as usize, value);
     }
 }
 
 // Where a series of words begins and with which value, and the steps to the next.
 #[derive(Clone, Copy)]
 pub struct Series {
-    pub at: u32,
-    pub stride: u32,
-    pub value: u32,
-    pub step: u32,
+    at: u32,
+    stride: u32,
+    value: u32,
+    step: u32,
+}
+
+impl Series {
+    pub fn of_line(line: Line) -> Series {
+        Series {
+            at: line.number(1),
+            stride: line.number(3),
+            value: line.number(4),
+            step: line.number(5),
+        }
+    }
 }
 
 pub fn patch(words: &mut [u32], count: u32, first: Series) {
-    let mut at = first.at;
-    let mut value = first.value;
-    let mut k: u32 = 0;
-    while k < count {
-        set(words, at, value);
-        at = numbered::next_word(at, first.stride);
-        value = numbered::next_word(value, first.step);
-        k += 1;
+    let Series {
+        mut at,
+        stride,
+        mut value,
+        step,
+    } = first;
+    for _ in 0..count {
+        set(words, at as usize, value);
+        at = at.wrapping_add(stride);
+        value = value.wrapping_add(step);
     }
 }

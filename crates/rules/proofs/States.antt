@@ -1,8 +1,8 @@
 -- What a good state is, taken apart and put together. Assumes nothing.
-use Rattle.std.proofs.Common.{◌≡◌, ℕ, ◌+◌, ◌*◌, ◌/◌, ◌<◌, ◌≤◌, Bool, true, false, ◌||◌, eqb, ◌⊎◌, refl, inl, inr, arith, ltb-true, lt-ltb, eqb-true, le-leb, leb-true}
+use Rattle.std.proofs.Common.{◌≡◌, ℕ, ◌+◌, ◌*◌, ◌/◌, ◌<◌, ◌≤◌, Bool, true, false, ◌||◌, eqb, refl, arith, ltb-true, lt-ltb, eqb-true, le-leb, leb-true}
 use mathlib.Core.Bool.{false≢true}
 use Rattle.rules.specs.Table.{size_ok, state_ok}
-use Rattle.rules.proofs.Tests.{by_cases, both}
+use Rattle.rules.proofs.Tests.{both}
 
 -- the five sizes
 pub data Size : ℕ → Type 0 where
@@ -11,24 +11,6 @@ pub data Size : ℕ → Type 0 where
   s64 : Size 64
   s128 : Size 128
   s256 : Size 256
-
--- the same as a `match` on a number states it
-abbrev pub Sizes : ℕ → Type 0
-Sizes m = (m ≡ 16) ⊎ (m ≡ 32) ⊎ (m ≡ 64) ⊎ (m ≡ 128) ⊎ (m ≡ 256)
-
-pub size_of : {m : ℕ} → Sizes m → Size m
-size_of (inl e) = rw e s16
-size_of (inr (inl e)) = rw e s32
-size_of (inr (inr (inl e))) = rw e s64
-size_of (inr (inr (inr (inl e)))) = rw e s128
-size_of (inr (inr (inr (inr e)))) = rw e s256
-
-pub of_size : {m : ℕ} → Size m → Sizes m
-of_size s16 = inl refl
-of_size s32 = inr (inl refl)
-of_size s64 = inr (inr (inl refl))
-of_size s128 = inr (inr (inr (inl refl)))
-of_size s256 = inr (inr (inr (inr refl)))
 
 -- the test of a size says that it is one of the five
 pub size_ok_lem : {m : ℕ} → Size m → size_ok m ≡ true
@@ -51,9 +33,6 @@ five m false false false false false p q r s t h = absurd (false≢true h)
 pub ok_size : (m : ℕ) → size_ok m ≡ true → Size m
 unfolding size_ok
 ok_size m h = five m _ _ _ _ _ refl refl refl refl refl h
-
-pub no_size : (m : ℕ) → (Size m → ⊥) → size_ok m ≡ false
-no_size m f = by_cases (size_ok m) (λ e. absurd (f (ok_size m e))) (λ e. e)
 
 -- the bounds of a size, and its double and half
 pub size_low : {m : ℕ} → Size m → 16 ≤ m

@@ -1,30 +1,24 @@
 // Checksums of words and of bytes.
+ghost use Rattle.std.specs.Prelude.{◌≡◌};
+ghost use Rattle.script.specs.Numbers.{mixed, MixesIn};
 
 // A checksum with one number more: a polynomial modulo 2^32.
-pub fn mix(sum: u32, x: u32) -> u32 {
-    ((sum as u64 * 16777619 + x as u64) % 4294967296) as u32
+pub fn mix(sum: u32, x: u32) -> u32
+    ensures { result ≡ mixed sum x }
+{
+    sum.wrapping_mul(16777619).wrapping_add(x)
 }
 
-pub fn of_words(words: &[u32]) -> u32 {
-    let mut sum: u32 = 1;
-    let mut i: usize = 0;
-    while i < words.len() {
-        sum = mix(sum, words[i]);
-        i += 1;
-    }
-    sum
+// A checksum with words or bytes more, from the first to the last.
+pub fn more<T: Copy + Into<u32>>(sum: u32, numbers: &[T]) -> u32
+    ensures { MixesIn T.converts sum numbers.now result }
+{
+    numbers.iter().fold(sum, |s, x| mix(s, (*x).into()))
 }
 
-fn mix_byte(sum: u32, x: u8) -> u32 {
-    mix(sum, x as u32)
-}
-
-pub fn of_bytes(bytes: &[u8]) -> u32 {
-    let mut sum: u32 = 1;
-    let mut i: usize = 0;
-    while i < bytes.len() {
-        sum = mix_byte(sum, bytes[i]);
-        i += 1;
-    }
-    sum
+// The checksum of words or of bytes.
+pub fn of<T: Copy + Into<u32>>(numbers: &[T]) -> u32
+    ensures { MixesIn T.converts 1 numbers.now result }
+{
+    more(1, numbers)
 }

@@ -1,31 +1,22 @@
 // The serials of a bucket, read from the words.
 ghost use Rattle.std.specs.Prelude.{◌<◌, ◌^◌};
 
-use script::lines;
+use script::words::word;
 use std::io;
 
-// A word of the store, and 0 past its end.
-pub fn word(words: &[u32], at: usize) -> u32 {
-    if at < words.len() { words[at] } else { 0 }
-}
-
-// The bytes of a word that are not zero, the highest first.
-fn put_four(rt: &impl Print, x: u32) -> io::Result<()> {
-    lines::put_byte(rt, (x / 16777216) as u8)?;
-    lines::put_byte(rt, (x / 65536 % 256) as u8)?;
-    lines::put_byte(rt, (x / 256 % 256) as u8)?;
-    lines::put_byte(rt, (x % 256) as u8)
-}
-
-// The serial in a card's cell, which begins at word 279 + 9 times its number.
+// The serial in a card's cell, which begins at word 279 + 9 times its number: the bytes that are not zero.
 fn put_serial(rt: &impl Print, words: &[u32], at: usize) -> io::Result<()>
     requires { at < 2 ^ 40 }
 {
-    lines::put(rt, b" ")?;
-    put_four(rt, word(words, at + 2))?;
-    put_four(rt, word(words, at + 3))?;
-    put_four(rt, word(words, at + 4))?;
-    put_four(rt, word(words, at + 5))
+    rt.write_all(b" ")?;
+    for part in at + 2..at + 6 {
+        for byte in word(words, part).to_be_bytes() {
+            if byte != 0 {
+                rt.write_all(&[byte])?;
+            }
+        }
+    }
+    Ok(())
 }
 
 fn cell_at(cell: u32) -> usize
@@ -34,17 +25,16 @@ fn cell_at(cell: u32) -> usize
     279 + 9 * (cell as usize)
 }
 
+// As many cards at most as a store can have.
 pub fn put_chain(rt: &impl Print, words: &[u32], bucket: u32) -> io::Result<()> {
-    lines::put(rt, b":")?;
+    rt.write_all(b":")?;
     let mut cell = word(words, 32 + bucket as usize);
-    let mut left: u32 = 1024;
-    while 0 < left {
+    for _ in 0..1024 {
         if cell == 0 {
-            return Ok(());
+            break;
         }
         put_serial(rt, words, cell_at(cell))?;
         cell = word(words, cell_at(cell));
-        left -= 1;
     }
     Ok(())
 }

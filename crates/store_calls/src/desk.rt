@@ -1,263 +1,187 @@
 // The script: each line is done and told.
-use crate::asks::Call;
+use crate::asks::Left;
+use crate::numbered::Told;
 use crate::{asks, chains, numbered};
-use script::{lines, sums};
+use script::calls::{Call, Kind, Terms};
+use script::lines::{self, Line};
+use script::numbers::around;
+use script::serials::Serial;
+use script::{sums, words};
 use std::io;
 
-// How many of the words, of scratch and of the room are lent.
-#[derive(Clone, Copy)]
-pub struct Sizes {
-    pub words: usize,
-    pub scratch: usize,
-    pub room: usize,
+// The word of p, which changes with the number of buckets.
+const P_AT: usize = 4;
+
+// The buffers, and how many words, bytes of scratch and words of the room are lent from here on.
+// Kept: what may not change, that a buffer keeps behind what is lent what earlier lines left there, so that no buffer is cut to its length.
+#[derive(Drop)]
+pub struct Desk<'a> {
+    words: &'a mut [u32],
+    scratch: &'a mut [u8],
+    room: &'a mut [u32],
+    words_len: usize,
+    scratch_len: usize,
+    room_len: usize,
 }
 
-// A serial's field: `_` is a zero byte. What does not fit into sixteen bytes is told by the length alone.
-fn byte_of(b: u8) -> u8 {
-    if b == b'_' { 0 } else { b }
+// The first so many, or all that there are.
+fn front<T>(items: &mut [T], n: usize) -> &mut [T] {
+    let n = n.min(items.len());
+    &mut items[..n]
 }
 
-fn lay_byte(serial: &mut [u8], at: usize, b: u8) {
-    if at < serial.len() {
-        serial[at] = byte_of(b);
-    }
-}
-
-fn after(at: usize) -> usize {
-    if at < 16 { at + 1 } else { at }
-}
-
-fn lay(serial: &mut [u8], from: usize, bytes: &[u8]) {
-    let mut at = from;
-    let mut i: usize = 0;
-    while i < bytes.len() {
-        lay_byte(serial, at, bytes[i]);
-        at = after(at);
-        i += 1;
-    }
-}
-
-fn serial_of(field: &[u8]) -> [u8; 16] {
-    let mut serial = [0u8; 16];
-    lay(&mut serial, 0, lines::first(field, b'|'));
-    lay(
-        &mut serial,
-        lines::before(field, b'|'),
-        lines::behind(field, b'|'),
-    );
-    serial
-}
-
-// A line of one call.
-fn call_of(line: &[u8]) -> Call {
-    let field = lines::second(line);
-    Call {
-        letter: lines::letter(line),
-        serial: serial_of(field),
-        len: lines::before(field, b'|'),
-        day: lines::number(lines::third(line)),
-        code: lines::number(lines::fourth(line)),
-    }
-}
-
-fn one_call(
-    rt: &impl Print,
-    line: &[u8],
-    words: &mut [u32],
-    scratch: &mut [u8],
-    room: &mut [u32],
-) -> io::Result<()> {
-    let c = call_of(line);
-    asks::tell(rt, asks::ask(words, scratch, room, c), c.letter)
-}
-
-// A line of many calls.
-fn many_calls(
-    rt: &impl Print,
-    line: &[u8],
-    words: &mut [u32],
-    scratch: &mut [u8],
-    room: &mut [u32],
-) -> io::Result<()> {
-    let count = lines::number(lines::second(line));
-    let from = lines::number(lines::third(line));
-    let step = lines::number(lines::fourth(line));
-    numbered::many(
-        rt,
-        words,
-        scratch,
-        room,
-        lines::letter(line),
-        count,
-        from,
-        step,
-    )
-}
-
-// The other lines.
-fn open(rt: &impl Print, line: &[u8], words: &mut [u32]) -> io::Result<()> {
-    let cards = lines::number_at(line, 1);
-    let faults = lines::number_at(line, 2);
-    let upper = lines::number_at(line, 3);
-    let lower = lines::number_at(line, 4);
-    lines::put(rt, b":")?;
-    lines::put_next(rt, store::open(words, cards, faults, upper, lower))?;
-    lines::put(rt, b" words")?;
-    lines::put_next(rt, sums::of_words(words))
-}
-
-fn put_word(line: &[u8], words: &mut [u32]) {
-    let at = lines::number(lines::second(line)) as usize;
-    if at < words.len() {
-        words[at] = lines::number(lines::third(line));
-    }
-}
-
-fn tell_word(rt: &impl Print, line: &[u8], words: &[u32]) -> io::Result<()> {
-    let at = lines::number(lines::second(line)) as usize;
-    lines::put(rt, b":")?;
-    lines::put_next(rt, chains::word(words, at))
-}
-
-// Show for a serial of one byte, whatever it is, and for one of the greatest length.
-fn one_byte(b: u32) -> [u8; 16] {
-    let mut out = [0u8; 16];
-    out[0] = (b % 256) as u8;
-    out
-}
-
-fn shown(
-    rt: &impl Print,
-    words: &mut [u32],
-    scratch: &mut [u8],
-    room: &mut [u32],
-    serial: [u8; 16],
-    len: usize,
-) -> io::Result<()> {
-    let c = Call {
-        letter: b'S',
-        serial,
+// A serial's field: `_` is a zero byte, and what stands behind a `|` is sent but does not count.
+fn serial_of(field: &[u8]) -> Serial {
+    let (counted, behind) = lines::cut(field, b'|');
+    let Serial { bytes, len } = Serial::new(counted, behind);
+    Serial {
+        bytes: bytes.map(|b| if b == b'_' { 0 } else { b }),
         len,
-        day: 0,
-        code: 0,
-    };
-    let left = asks::ask(words, scratch, room, c);
-    lines::put_number(rt, left.number)
-}
-
-fn show_bytes(
-    rt: &impl Print,
-    words: &mut [u32],
-    scratch: &mut [u8],
-    room: &mut [u32],
-) -> io::Result<()> {
-    let mut b: u32 = 0;
-    while b < 256 {
-        shown(rt, words, scratch, room, one_byte(b), 1)?;
-        b += 1;
     }
-    Ok(())
 }
 
-fn show_odd(
-    rt: &impl Print,
-    words: &mut [u32],
-    scratch: &mut [u8],
-    room: &mut [u32],
-) -> io::Result<()> {
-    lines::put(rt, b": ")?;
-    show_bytes(rt, words, scratch, room)?;
-    lines::put(rt, b" ")?;
-    shown(rt, words, scratch, room, [55u8; 16], 18446744073709551615)
-}
-
-// A line that reads or sets the words alone.
-fn words_line(rt: &impl Print, line: &[u8], words: &mut [u32]) -> io::Result<()> {
-    match lines::letter(line) {
-        b'O' => open(rt, line, words),
-        b'P' => {
-            put_word(line, words);
-            Ok(())
+impl<'a> Desk<'a> {
+    pub fn new(words: &'a mut [u32], scratch: &'a mut [u8], room: &'a mut [u32]) -> Desk<'a> {
+        Desk {
+            words,
+            scratch,
+            room,
+            words_len: 0,
+            scratch_len: 0,
+            room_len: 0,
         }
-        b'V' => tell_word(rt, line, words),
-        b'K' => chains::put_chain(rt, words, lines::number(lines::second(line))),
-        _ => Ok(()),
+    }
+
+    // One line, with its echo.
+    pub fn turn(&mut self, rt: &impl Print, line: Line) -> io::Result<()> {
+        self.lend(line);
+        rt.write_all(line.bytes)?;
+        match line.letter() {
+            b'E' => self.one(rt, line, Kind::Enter)?,
+            b'F' => self.one(rt, line, Kind::File)?,
+            b'S' => self.one(rt, line, Kind::Show)?,
+            b'W' => self.one(rt, line, Kind::Withdraw)?,
+            b'e' => self.many(rt, line, Kind::Enter, Told::By64)?,
+            b'f' => self.many(rt, line, Kind::File, Told::By64)?,
+            b's' => self.many(rt, line, Kind::Show, Told::By64)?,
+            b'w' => self.many(rt, line, Kind::Withdraw, Told::By64)?,
+            b'g' => self.many(rt, line, Kind::Enter, Told::ByChange)?,
+            b'c' => self.many(rt, line, Kind::Withdraw, Told::ByChange)?,
+            b'A' => self.show_odd(rt)?,
+            _ => self.do_words(rt, line)?,
+        }
+        rt.write_all(b"\n")
+    }
+
+    // What is lent from this line on.
+    fn lend(&mut self, line: Line) {
+        match line.letter() {
+            b'O' => self.words_len = line.number(5) as usize,
+            b'B' => self.scratch_len = line.number(1) as usize,
+            b'R' => self.room_len = line.number(1) as usize,
+            _ => {}
+        }
+    }
+
+    // A line that reads or sets the words alone.
+    fn do_words(&mut self, rt: &impl Print, line: Line) -> io::Result<()> {
+        let words = front(self.words, self.words_len);
+        let at = line.number(1);
+        match line.letter() {
+            b'O' => open(rt, line, words),
+            b'P' => {
+                words::set(words, at as usize, line.number(2));
+                Ok(())
+            }
+            b'V' => {
+                let word = words::word(words, at as usize);
+                print!(rt; ": {word}")
+            }
+            b'K' => chains::put_chain(rt, words, at),
+            _ => Ok(()),
+        }
+    }
+
+    fn ask(&mut self, call: Call) -> Left {
+        let words = front(self.words, self.words_len);
+        let scratch = front(self.scratch, self.scratch_len);
+        let room = front(self.room, self.room_len);
+        asks::ask(words, scratch, room, call)
+    }
+
+    // A line of one call.
+    fn one(&mut self, rt: &impl Print, line: Line, kind: Kind) -> io::Result<()> {
+        let call = Call {
+            kind,
+            serial: serial_of(line.field(1)),
+            day: line.number(2),
+            code: line.number(3),
+        };
+        self.ask(call).tell(rt, kind)
+    }
+
+    // A line of many calls for numbered serials.
+    fn many(&mut self, rt: &impl Print, line: Line, kind: Kind, told: Told) -> io::Result<()> {
+        let count = line.number(1);
+        let step = line.number(3);
+        let mut n = line.number(2);
+        let mut sum = 1;
+        for k in 0..count {
+            let p = self.word(P_AT);
+            sum = self.ask(numbered::call(kind, n, k)).fold(sum);
+            n = around::<1024>(n, step);
+            let calls = k + 1;
+            if calls == count || told.is_due(calls, self.word(P_AT) != p) {
+                self.report(rt, calls, sum)?;
+            }
+        }
+        Ok(())
+    }
+
+    // A word of what is lent; 0 past its end.
+    fn word(&self, at: usize) -> u32 {
+        let n = self.words_len.min(self.words.len());
+        words::word(&self.words[..n], at)
+    }
+
+    // A line for the calls so far: maxp, p, cards and faults held, and the checksum.
+    fn report(&self, rt: &impl Print, calls: u32, sum: u32) -> io::Result<()> {
+        print!(rt; "\n{calls} calls:")?;
+        for at in 3..7 {
+            let word = self.word(at);
+            print!(rt; " {word}")?;
+        }
+        print!(rt; " sum {sum}")
+    }
+
+    // Show for a serial of one byte, whatever it is, and for one of the greatest length.
+    fn show_odd(&mut self, rt: &impl Print) -> io::Result<()> {
+        rt.write_all(b": ")?;
+        for byte in 0..=255u8 {
+            self.show(rt, Serial::new(&[byte], &[]))?;
+        }
+        rt.write_all(b" ")?;
+        self.show(
+            rt,
+            Serial {
+                bytes: [55; 16],
+                len: usize::MAX,
+            },
+        )
+    }
+
+    fn show(&mut self, rt: &impl Print, serial: Serial) -> io::Result<()> {
+        let call = Call {
+            kind: Kind::Show,
+            serial,
+            day: 0,
+            code: 0,
+        };
+        rt.print(self.ask(call).answer.number)
     }
 }
 
-fn do_line(
-    rt: &impl Print,
-    line: &[u8],
-    words: &mut [u32],
-    scratch: &mut [u8],
-    room: &mut [u32],
-) -> io::Result<()> {
-    match lines::letter(line) {
-        b'E' | b'F' | b'S' | b'W' => one_call(rt, line, words, scratch, room),
-        b'e' | b'f' | b's' | b'w' | b'g' | b'c' => many_calls(rt, line, words, scratch, room),
-        b'A' => show_odd(rt, words, scratch, room),
-        _ => words_line(rt, line, words),
-    }
-}
-
-// What is lent from this line on.
-fn sizes_at(line: &[u8], now: Sizes) -> Sizes {
-    match lines::letter(line) {
-        b'O' => Sizes {
-            words: lines::number_at(line, 5) as usize,
-            scratch: now.scratch,
-            room: now.room,
-        },
-        b'B' => Sizes {
-            words: now.words,
-            scratch: lines::number(lines::second(line)) as usize,
-            room: now.room,
-        },
-        b'R' => Sizes {
-            words: now.words,
-            scratch: now.scratch,
-            room: lines::number(lines::second(line)) as usize,
-        },
-        _ => now,
-    }
-}
-
-// One line, with its echo.
-fn turn(
-    rt: &impl Print,
-    line: &[u8],
-    words: &mut [u32],
-    scratch: &mut [u8],
-    room: &mut [u32],
-    lent: Sizes,
-) -> io::Result<()> {
-    let a = lines::least(lent.words, words.len());
-    let b = lines::least(lent.scratch, scratch.len());
-    let c = lines::least(lent.room, room.len());
-    lines::put(rt, line)?;
-    do_line(rt, line, &mut words[..a], &mut scratch[..b], &mut room[..c])?;
-    lines::put(rt, b"\n")
-}
-
-pub fn run(
-    rt: &impl Print,
-    script: &[u8],
-    words: &mut [u32],
-    scratch: &mut [u8],
-    room: &mut [u32],
-) -> io::Result<()> {
-    let mut lent = Sizes {
-        words: 0,
-        scratch: 0,
-        room: 0,
-    };
-    let mut at: usize = 0;
-    while at < script.len() {
-        let end = lines::line_end(script, at);
-        let line = &script[at..end];
-        lent = sizes_at(line, lent);
-        turn(rt, line, words, scratch, room, lent)?;
-        at = lines::past(end, script.len());
-    }
-    Ok(())
+fn open(rt: &impl Print, line: Line, words: &mut [u32]) -> io::Result<()> {
+    let number = Terms::of_line(line).open(words);
+    print!(rt; ": {number} words {}", sums::of(words))
 }

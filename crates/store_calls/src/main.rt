@@ -22,21 +22,27 @@
 // In a serial `_` stands for a zero byte, and the bytes behind a `|` are sent but not counted in the length.
 #![tactic(auto)]
 
-mod asks; // asks.rt: one call: what is asked, what is left, and how that is told
+mod asks; // asks.rt: one call: what is left, and how that is told
 mod chains; // chains.rt: the serials of a bucket, read from the words
 mod desk; // desk.rt: the script: each line is done and told
 mod fills; // fills.rt: what scratch and room are filled with before a call
 mod numbered; // numbered.rt: serials by number, and many calls for them
 
-use script::input;
+use desk::Desk;
+use script::lines::Line;
 use std::io;
+use std::io::Read;
 
 // A script of up to 65,536 bytes, and words for the largest store.
 fn main(rt: HostRuntime) -> io::Result<()> {
-    let mut buffer = [0u8; 65536];
-    let n = input::read_full(&rt, &mut buffer)?;
+    let mut script = Vec::new(rt.alloc());
+    rt.reader().take(65536).read_to_end(&mut script)?;
     let mut words = [4294967295u32; 15648];
     let mut scratch = [0u8; 1000];
     let mut room = [0u32; 64];
-    desk::run(&rt, &buffer[..n], &mut words, &mut scratch, &mut room)
+    let mut desk = Desk::new(&mut words, &mut scratch, &mut room);
+    for piece in script.split_inclusive(|b| *b == b'\n') {
+        desk.turn(&rt, Line::new(piece))?;
+    }
+    Ok(())
 }

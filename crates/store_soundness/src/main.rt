@@ -4,29 +4,14 @@
 
 ghost use Rattle.std.specs.Prelude.{◌≡◌, ◌<◌, ◌≤◌, length};
 
+use script::calls::{Call, Kind, Terms};
+use script::serials::Serial;
 use std::io;
-use std::num::{wrapping_add_u32, wrapping_sub_u32};
-
-fn text(rt: &impl Print, bytes: &[u8]) -> io::Result<()> {
-    rt.write_all(bytes)
-}
-
-fn number(rt: &impl Print, n: u64) -> io::Result<()> {
-    rt.print(n)
-}
-
-fn word(rt: &impl Print, n: u32) -> io::Result<()> {
-    number(rt, n as u64)
-}
 
 // What the checker says of the words.
 fn judge(rt: &impl Print, words: &[u32]) -> io::Result<()> {
-    let mut scratch = [0u8; 384];
-    if store::check(words, &mut scratch) {
-        text(rt, b"1")
-    } else {
-        text(rt, b"0")
-    }
+    let mut scratch = [0u8; store::NEED];
+    rt.print(u32::from(store::check(words, &mut scratch)))
 }
 
 // The same with another value in one word, which is put back.
@@ -40,127 +25,106 @@ fn judge_with(rt: &impl Print, words: &mut [u32], at: usize, value: u32) -> io::
     told
 }
 
-// The same with each of the values 0 to 6.
-fn judge_low(rt: &impl Print, words: &mut [u32], at: usize) -> io::Result<()>
-    requires { at < length words.old }
-{
-    let mut value: u32 = 0;
-    while value < 7 {
-        judge_with(rt, words, at, value)?;
-        value += 1;
-    }
-    Ok(())
-}
-
 // A line for one word: its place, its value, and the verdicts with 1 more, 1 less, 16 more in its highest byte, 0 to 6, and the highest value.
 fn damage(rt: &impl Print, words: &mut [u32], at: usize) -> io::Result<()>
     requires { at < length words.old }
 {
     let was = words[at];
-    number(rt, at as u64)?;
-    text(rt, b" ")?;
-    word(rt, was)?;
-    text(rt, b" ")?;
-    judge_with(rt, words, at, wrapping_add_u32(was, 1))?;
-    judge_with(rt, words, at, wrapping_sub_u32(was, 1))?;
-    judge_with(rt, words, at, wrapping_add_u32(was, 268435456))?;
-    judge_low(rt, words, at)?;
-    judge_with(rt, words, at, 4294967295)?;
-    text(rt, b"\n")
+    print!(rt; "{at} {was} ")?;
+    judge_with(rt, words, at, was.wrapping_add(1))?;
+    judge_with(rt, words, at, was.wrapping_sub(1))?;
+    judge_with(rt, words, at, was.wrapping_add(0x1000_0000))?;
+    for value in 0..7 {
+        judge_with(rt, words, at, value)?;
+    }
+    judge_with(rt, words, at, u32::MAX)?;
+    println!(rt; "")
 }
 
 // A line for each word from one place up to another.
 fn damage_all(rt: &impl Print, words: &mut [u32], from: usize, to: usize) -> io::Result<()>
     requires { to ≤ length words.old }
 {
-    let mut at = from;
-    while at < to {
+    for at in from..to {
         damage(rt, words, at)?;
-        at += 1;
     }
     Ok(())
 }
 
 // Opens a store, and prints the limits, the bounds, the number and the verdict.
-fn open_with(
-    rt: &impl Print,
-    words: &mut [u32],
-    cards: u32,
-    faults: u32,
-    upper: u32,
-    lower: u32,
-) -> io::Result<()> {
-    text(rt, b"open ")?;
-    word(rt, cards)?;
-    text(rt, b" ")?;
-    word(rt, faults)?;
-    text(rt, b" ")?;
-    word(rt, upper)?;
-    text(rt, b" ")?;
-    word(rt, lower)?;
-    text(rt, b": ")?;
-    word(rt, store::open(words, cards, faults, upper, lower))?;
-    text(rt, b" ")?;
+fn open_with(rt: &impl Print, words: &mut [u32], terms: Terms) -> io::Result<()> {
+    let Terms {
+        cards,
+        faults,
+        upper,
+        lower,
+    } = terms;
+    let number = terms.open(words);
+    print!(rt; "open {cards} {faults} {upper} {lower}: {number} ")?;
     judge(rt, words)?;
-    text(rt, b"\n")
+    println!(rt; "")
 }
 
 // The same with the bounds that most stores have.
 fn open(rt: &impl Print, words: &mut [u32], cards: u32, faults: u32) -> io::Result<()> {
-    open_with(rt, words, cards, faults, 4, 2)
+    let terms = Terms {
+        cards,
+        faults,
+        upper: 4,
+        lower: 2,
+    };
+    open_with(rt, words, terms)
+}
+
+// The same with other bounds, for one fault.
+fn open_bounded(
+    rt: &impl Print,
+    words: &mut [u32],
+    cards: u32,
+    upper: u32,
+    lower: u32,
+) -> io::Result<()> {
+    let terms = Terms {
+        cards,
+        faults: 1,
+        upper,
+        lower,
+    };
+    open_with(rt, words, terms)
 }
 
 // Open refuses limits and bounds out of range and a wrong length, the first that applies, and then sets a store. Every word of it is
 // damaged.
 
-fn refused_limits(rt: &impl Print, words: &mut [u32]) -> io::Result<()> {
-    open(rt, words, 0, 1)?;
-    open(rt, words, 1, 0)?;
-    open(rt, words, 1025, 1)?;
-    open(rt, words, 1, 2049)?;
-    open(rt, words, 2, 1)
+fn refused(rt: &impl Print, words: &mut [u32]) -> io::Result<()> {
+    for (cards, faults) in [(0, 1), (1, 0), (1025, 1), (1, 2049), (2, 1)] {
+        open(rt, words, cards, faults)?;
+    }
+    for (upper, lower) in [(1, 1), (11, 5), (4, 0), (4, 3)] {
+        open_bounded(rt, words, 1, upper, lower)?;
+    }
+    for (upper, lower) in [(4, 0x8000_0000), (4, u32::MAX), (u32::MAX, 2)] {
+        open_bounded(rt, words, 1, upper, lower)?;
+    }
+    for cards in [0, 2] {
+        open_bounded(rt, words, cards, 4, 3)?;
+    }
+    Ok(())
 }
 
-fn refused_bounds(rt: &impl Print, words: &mut [u32]) -> io::Result<()> {
-    open_with(rt, words, 1, 1, 1, 1)?;
-    open_with(rt, words, 1, 1, 11, 5)?;
-    open_with(rt, words, 1, 1, 4, 0)?;
-    open_with(rt, words, 1, 1, 4, 3)
-}
-
-fn refused_high_bounds(rt: &impl Print, words: &mut [u32]) -> io::Result<()> {
-    open_with(rt, words, 1, 1, 4, 2147483648)?;
-    open_with(rt, words, 1, 1, 4, 4294967295)?;
-    open_with(rt, words, 1, 1, 4294967295, 2)
-}
-
-fn refused_in_order(rt: &impl Print, words: &mut [u32]) -> io::Result<()> {
-    open_with(rt, words, 0, 1, 4, 3)?;
-    open_with(rt, words, 2, 1, 4, 3)
-}
-
-fn smallest(rt: &impl Print, words: &mut [u32]) -> io::Result<()>
-    requires { length words.old ≡ 300 }
-{
-    refused_limits(rt, words)?;
-    refused_bounds(rt, words)?;
-    refused_high_bounds(rt, words)?;
-    refused_in_order(rt, words)?;
+fn smallest(rt: &impl Print, words: &mut [u32; 300]) -> io::Result<()> {
+    refused(rt, words)?;
     open(rt, words, 1, 1)?;
     damage_all(rt, words, 0, 300)
 }
 
-fn small(rt: &impl Print, words: &mut [u32]) -> io::Result<()>
-    requires { length words.old ≡ 321 }
-{
+fn small(rt: &impl Print, words: &mut [u32; 321]) -> io::Result<()> {
     open(rt, words, 3, 2)?;
     damage_all(rt, words, 0, 321)
 }
 
 // All of the header and the directory, and some of each other part.
-fn largest(rt: &impl Print, words: &mut [u32]) -> io::Result<()>
-    requires { length words.old ≡ 15648 }
-{
+fn largest(rt: &impl Print, words: &mut [u32; 15648]) -> io::Result<()> {
     open(rt, words, 1024, 2048)?;
     damage_all(rt, words, 0, 48)?;
     damage_all(rt, words, 287, 306)?;
@@ -169,109 +133,54 @@ fn largest(rt: &impl Print, words: &mut [u32]) -> io::Result<()>
 }
 
 // The first words, as many as asked for.
-fn shortened(rt: &impl Print, words: &[u32], n: usize) -> io::Result<()>
-    requires { n ≤ length words.now }
-{
-    text(rt, b"length ")?;
-    number(rt, n as u64)?;
-    text(rt, b": ")?;
-    judge(rt, &words[0..n])?;
-    text(rt, b"\n")
-}
-
-fn lengths(rt: &impl Print, words: &mut [u32]) -> io::Result<()>
-    requires { length words.old ≡ 301 }
-{
-    open(rt, &mut words[0..300], 1, 1)?;
-    shortened(rt, words, 0)?;
-    shortened(rt, words, 15)?;
-    shortened(rt, words, 16)?;
-    shortened(rt, words, 287)?;
-    shortened(rt, words, 288)?;
-    shortened(rt, words, 299)?;
-    shortened(rt, words, 300)?;
-    shortened(rt, words, 301)
+fn lengths(rt: &impl Print, words: &mut [u32; 301]) -> io::Result<()> {
+    open(rt, &mut words[..300], 1, 1)?;
+    for n in [0, 15, 16, 287, 288, 299, 300, 301] {
+        print!(rt; "length {n}: ")?;
+        judge(rt, &words[..n])?;
+        println!(rt; "")?;
+    }
+    Ok(())
 }
 
 // A store in use. Bucket 7 has `7` in cell 2, then `007` in cell 1, whose faults stand in cells 3 and 1; bucket 0 has `A-B` in
 // cell 4, with a fault in cell 4. Card cells 5 and 3 are free, and fault cells 2 and 5.
 
-fn put(words: &mut [u32], at: usize, value: u32)
-    requires { at < length words.old }
-{
-    words[at] = value;
-}
-
 // Cards and faults held, the first free cells, and the two buckets that are not empty.
-fn put_counts(words: &mut [u32])
-    requires { length words.old ≡ 348 }
-{
-    put(words, 5, 3);
-    put(words, 6, 3);
-    put(words, 7, 5);
-    put(words, 8, 2);
-    put(words, 32, 4);
-    put(words, 39, 2);
+const COUNTS: [(usize, u32); 6] = [(5, 3), (6, 3), (7, 5), (8, 2), (32, 4), (39, 2)];
+
+// The cells of the cards: the next one, the length and the four words of the serial, the first fault, the last one, and how many.
+const CARDS: [[u32; 9]; 5] = [
+    [0, 3, 0x3030_3700, 0, 0, 0, 3, 1, 2],
+    [1, 1, 0x3700_0000, 0, 0, 0, 0, 0, 0],
+    [0, 0, 0, 0, 0, 0, 0, 0, 0],
+    [0, 3, 0x412D_4200, 0, 0, 0, 4, 4, 1],
+    [3, 0, 0, 0, 0, 0, 0, 0, 0],
+];
+
+// The cells of the faults: the next one, the day and the code.
+const FAULTS: [[u32; 3]; 5] = [
+    [0, 65535, 9999],
+    [5, 0, 0],
+    [1, 100, 12],
+    [0, 1, 1],
+    [0, 0, 0],
+];
+
+fn put_all(words: &mut [u32], values: &[(usize, u32)]) {
+    for (at, value) in values {
+        script::words::set(words, *at, *value);
+    }
 }
 
-fn put_card(
-    words: &mut [u32],
-    at: usize,
-    next: u32,
-    len: u32,
-    serial: u32,
-    first: u32,
-    last: u32,
-    count: u32,
-)
-    requires { (at < 340) × (length words.old ≡ 348) }
-{
-    put(words, at, next);
-    put(words, at + 1, len);
-    put(words, at + 2, serial);
-    put(words, at + 6, first);
-    put(words, at + 7, last);
-    put(words, at + 8, count);
-}
-
-fn put_fault(words: &mut [u32], at: usize, next: u32, day: u32, code: u32)
-    requires { (at < 346) × (length words.old ≡ 348) }
-{
-    put(words, at, next);
-    put(words, at + 1, day);
-    put(words, at + 2, code);
-}
-
-fn put_cards(words: &mut [u32])
-    requires { length words.old ≡ 348 }
-{
-    put_card(words, 288, 0, 3, 0x30303700, 3, 1, 2);
-    put_card(words, 297, 1, 1, 0x37000000, 0, 0, 0);
-    put_card(words, 306, 0, 0, 0, 0, 0, 0);
-    put_card(words, 315, 0, 3, 0x412D4200, 4, 4, 1);
-    put_card(words, 324, 3, 0, 0, 0, 0, 0);
-}
-
-fn put_faults(words: &mut [u32])
-    requires { length words.old ≡ 348 }
-{
-    put_fault(words, 333, 0, 65535, 9999);
-    put_fault(words, 336, 5, 0, 0);
-    put_fault(words, 339, 1, 100, 12);
-    put_fault(words, 342, 0, 1, 1);
-    put_fault(words, 345, 0, 0, 0);
-}
-
-fn in_use(rt: &impl Print, words: &mut [u32]) -> io::Result<()>
-    requires { length words.old ≡ 348 }
-{
+fn in_use(rt: &impl Print, words: &mut [u32; 348]) -> io::Result<()> {
     open(rt, words, 5, 5)?;
-    put_counts(words);
-    put_cards(words);
-    put_faults(words);
-    text(rt, b"in use: ")?;
+    put_all(words, &COUNTS);
+    words[288..333].copy_from_slice(CARDS.as_flattened());
+    words[333..].copy_from_slice(FAULTS.as_flattened());
+    print!(rt; "in use: ")?;
     judge(rt, words)?;
-    text(rt, b"\n")?;
+    println!(rt; "")?;
     damage_all(rt, words, 0, 348)
 }
 
@@ -288,215 +197,134 @@ fn byte_of(cell: u32) -> u32
 fn behind(cell: u32) -> u32
     requires { cell < 35 }
 {
-    if cell == 1 {
-        return 26;
+    match cell {
+        1 => 26,
+        2..=10 => cell + 9,
+        11..=18 => cell + 16,
+        _ => 0,
     }
-    if cell < 11 {
-        return cell + 9;
-    }
-    if cell < 19 {
-        return cell + 16;
-    }
-    0
 }
 
 // The first card of a bucket. Bucket 0 has lost its cards to bucket 16.
 fn head_of(bucket: u32) -> u32
     requires { bucket < 17 }
 {
-    if bucket == 0 {
-        return 0;
-    }
-    if bucket < 10 {
-        return bucket + 1;
-    }
-    if bucket < 16 {
-        return bucket + 10;
-    }
-    1
-}
-
-fn put_buckets(words: &mut [u32])
-    requires { length words.old ≡ 651 }
-{
-    let mut bucket: u32 = 0;
-    while bucket < 17 {
-        put(words, 32 + bucket as usize, head_of(bucket));
-        bucket += 1;
+    match bucket {
+        0 => 0,
+        1..=9 => bucket + 1,
+        10..=15 => bucket + 10,
+        _ => 1,
     }
 }
 
-fn put_label(words: &mut [u32], cell: u32)
-    requires { (1 ≤ cell) × (cell < 35) × (length words.old ≡ 651) }
-{
-    let at = 288 + 9 * ((cell - 1) as usize);
-    put(words, at, behind(cell));
-    put(words, at + 1, 1);
-    put(words, at + 2, byte_of(cell) * 16777216);
+fn put_buckets(words: &mut [u32; 651]) {
+    for bucket in 0..17 {
+        words[32 + bucket as usize] = head_of(bucket);
+    }
 }
 
-fn put_labels(words: &mut [u32])
-    requires { length words.old ≡ 651 }
-{
-    let mut cell: u32 = 1;
-    while cell < 35 {
-        put_label(words, cell);
-        cell += 1;
+fn put_labels(words: &mut [u32; 651]) {
+    for cell in 1..35 {
+        let at = 279 + 9 * (cell as usize);
+        words[at] = behind(cell);
+        words[at + 1] = 1;
+        words[at + 2] = byte_of(cell) * 0x0100_0000;
     }
 }
 
 // p, cards held, the first free card cell, and the directory word of the second segment.
-fn put_growth(words: &mut [u32])
-    requires { length words.old ≡ 651 }
-{
-    put(words, 4, 1);
-    put(words, 5, 34);
-    put(words, 7, 35);
-    put(words, 17, 48);
-}
+const GROWTH: [(usize, u32); 4] = [(4, 1), (5, 34), (7, 35), (17, 48)];
 
-fn grown(rt: &impl Print, words: &mut [u32]) -> io::Result<()>
-    requires { length words.old ≡ 651 }
-{
+fn grown(rt: &impl Print, words: &mut [u32; 651]) -> io::Result<()> {
     open(rt, words, 40, 1)?;
-    put_growth(words);
+    put_all(words, &GROWTH);
     put_buckets(words);
     put_labels(words);
-    text(rt, b"grown: ")?;
+    print!(rt; "grown: ")?;
     judge(rt, words)?;
-    text(rt, b"\n")?;
+    println!(rt; "")?;
     damage_all(rt, words, 0, 54)?;
     damage_all(rt, words, 288, 315)
 }
 
 // Stores of other bounds, and one of format 1, with cards that calls have entered and withdrawn: serials of two letters.
 
-fn label(k: u32) -> [u8; 16] {
-    let mut out = [0u8; 16];
-    out[0] = (65 + k / 26 % 26) as u8;
-    out[1] = (65 + k % 26) as u8;
-    out
+fn letter(k: u32) -> u8 {
+    b'A' + (k % 26) as u8
 }
 
-fn enter(words: &mut [u32], k: u32) {
-    let mut scratch = [0u8; 384];
-    store::enter(words, &mut scratch, label(k), 2);
-}
-
-fn enter_all(words: &mut [u32], count: u32) {
-    let mut k: u32 = 0;
-    while k < count {
-        enter(words, k);
-        k += 1;
-    }
-}
-
-fn withdraw(words: &mut [u32], k: u32) {
-    let mut scratch = [0u8; 384];
+fn call(words: &mut [u32], kind: Kind, k: u32) {
+    let mut scratch = [0u8; store::NEED];
     let mut room = [0u32; 2];
-    store::withdraw(words, &mut scratch, label(k), 2, &mut room);
+    let call = Call {
+        kind,
+        serial: Serial::new(&[letter(k / 26), letter(k)], &[]),
+        day: 0,
+        code: 0,
+    };
+    call.make(words, &mut scratch, &mut room);
 }
 
-fn withdraw_all(words: &mut [u32], count: u32) {
-    let mut k: u32 = 0;
-    while k < count {
-        withdraw(words, k);
-        k += 1;
+fn call_all(words: &mut [u32], kind: Kind, count: u32) {
+    for k in 0..count {
+        call(words, kind, k);
     }
 }
 
-// The verdicts with lower bounds 0 to 6 beside an upper one, and the words else as they are.
-fn judge_lower(rt: &impl Print, words: &mut [u32], upper: u32) -> io::Result<()>
-    requires { (upper < 12) × (14 < length words.old) }
+// A line for an upper bound: the verdicts with lower bounds 0 to 6 beside it, and the words else as they are.
+fn judge_upper(rt: &impl Print, words: &mut [u32; 5691], upper: u32) -> io::Result<()>
+    requires { upper < 12 }
 {
-    let mut lower: u32 = 0;
-    while lower < 7 {
+    print!(rt; "upper {upper}: ")?;
+    for lower in 0..7 {
         judge_with(rt, words, 14, 256 * upper + lower)?;
-        lower += 1;
     }
-    Ok(())
-}
-
-// A line for an upper bound.
-fn judge_upper(rt: &impl Print, words: &mut [u32], upper: u32) -> io::Result<()>
-    requires { (upper < 12) × (14 < length words.old) }
-{
-    text(rt, b"upper ")?;
-    word(rt, upper)?;
-    text(rt, b": ")?;
-    judge_lower(rt, words, upper)?;
-    text(rt, b"\n")
-}
-
-fn judge_bounds(rt: &impl Print, words: &mut [u32]) -> io::Result<()>
-    requires { 14 < length words.old }
-{
-    let mut upper: u32 = 0;
-    while upper < 12 {
-        judge_upper(rt, words, upper)?;
-        upper += 1;
-    }
-    Ok(())
+    println!(rt; "")
 }
 
 // maxp, p, cards held and the verdict; then the header, the directory and the first bucket words damaged, and other bounds.
-fn tell_loaded(rt: &impl Print, words: &mut [u32]) -> io::Result<()>
-    requires { length words.old ≡ 5691 }
-{
-    text(rt, b"loaded ")?;
-    word(rt, words[3])?;
-    text(rt, b" ")?;
-    word(rt, words[4])?;
-    text(rt, b" ")?;
-    word(rt, words[5])?;
-    text(rt, b": ")?;
+fn tell_loaded(rt: &impl Print, words: &mut [u32; 5691]) -> io::Result<()> {
+    print!(rt; "loaded {} {} {}: ", words[3], words[4], words[5])?;
     judge(rt, words)?;
-    text(rt, b"\n")?;
+    println!(rt; "")?;
     damage_all(rt, words, 0, 34)?;
-    judge_bounds(rt, words)
+    for upper in 0..12 {
+        judge_upper(rt, words, upper)?;
+    }
+    Ok(())
 }
 
 // 256 buckets with more cards than the upper bound allows.
-fn over(rt: &impl Print, words: &mut [u32]) -> io::Result<()>
-    requires { length words.old ≡ 5691 }
-{
-    open_with(rt, words, 600, 1, 2, 1)?;
-    enter_all(words, 515);
+fn over(rt: &impl Print, words: &mut [u32; 5691]) -> io::Result<()> {
+    open_bounded(rt, words, 600, 2, 1)?;
+    call_all(words, Kind::Enter, 515);
     tell_loaded(rt, words)
 }
 
 // 16 buckets with as many cards as the upper bound allows.
-fn most(rt: &impl Print, words: &mut [u32]) -> io::Result<()>
-    requires { length words.old ≡ 5691 }
-{
-    open_with(rt, words, 600, 1, 10, 5)?;
-    enter_all(words, 160);
+fn most(rt: &impl Print, words: &mut [u32; 5691]) -> io::Result<()> {
+    open_bounded(rt, words, 600, 10, 5)?;
+    call_all(words, Kind::Enter, 160);
     tell_loaded(rt, words)
 }
 
 // 17 buckets with the fewest cards that the lower bound allows.
-fn fewest(rt: &impl Print, words: &mut [u32]) -> io::Result<()>
-    requires { length words.old ≡ 5691 }
-{
-    open_with(rt, words, 600, 1, 10, 5)?;
-    enter_all(words, 161);
-    withdraw_all(words, 76);
+fn fewest(rt: &impl Print, words: &mut [u32; 5691]) -> io::Result<()> {
+    open_bounded(rt, words, 600, 10, 5)?;
+    call_all(words, Kind::Enter, 161);
+    call_all(words, Kind::Withdraw, 76);
     tell_loaded(rt, words)
 }
 
-fn first_format(rt: &impl Print, words: &mut [u32]) -> io::Result<()>
-    requires { length words.old ≡ 5691 }
-{
+fn first_format(rt: &impl Print, words: &mut [u32; 5691]) -> io::Result<()> {
     open(rt, words, 600, 1)?;
-    put(words, 0, 1);
-    put(words, 14, 0);
-    enter_all(words, 69);
+    words[0] = 1;
+    words[14] = 0;
+    call_all(words, Kind::Enter, 69);
     tell_loaded(rt, words)
 }
 
-fn loaded(rt: &impl Print, words: &mut [u32]) -> io::Result<()>
-    requires { length words.old ≡ 5691 }
-{
+fn loaded(rt: &impl Print, words: &mut [u32; 5691]) -> io::Result<()> {
     over(rt, words)?;
     most(rt, words)?;
     fewest(rt, words)?;
@@ -505,18 +333,11 @@ fn loaded(rt: &impl Print, words: &mut [u32]) -> io::Result<()>
 
 // Whatever the words held before, here ones in every bit.
 fn main(rt: HostRuntime) -> io::Result<()> {
-    let mut first = [4294967295u32; 300];
-    smallest(&rt, &mut first)?;
-    let mut second = [4294967295u32; 301];
-    lengths(&rt, &mut second)?;
-    let mut third = [4294967295u32; 321];
-    small(&rt, &mut third)?;
-    let mut fourth = [4294967295u32; 348];
-    in_use(&rt, &mut fourth)?;
-    let mut fifth = [4294967295u32; 651];
-    grown(&rt, &mut fifth)?;
-    let mut sixth = [4294967295u32; 15648];
-    largest(&rt, &mut sixth)?;
-    let mut seventh = [4294967295u32; 5691];
-    loaded(&rt, &mut seventh)
+    smallest(&rt, &mut [u32::MAX; 300])?;
+    lengths(&rt, &mut [u32::MAX; 301])?;
+    small(&rt, &mut [u32::MAX; 321])?;
+    in_use(&rt, &mut [u32::MAX; 348])?;
+    grown(&rt, &mut [u32::MAX; 651])?;
+    largest(&rt, &mut [u32::MAX; 15648])?;
+    loaded(&rt, &mut [u32::MAX; 5691])
 }

@@ -5,16 +5,13 @@ use Rattle.rules.specs.Code.{code_of}
 use Rattle.rules.proofs.Codes.{code_more, code_end}
 use Rattle.rules.proofs.reader_code.Goals as goal
 
-pub loop-i-init : goal.loop-i-init
+pub loop-byte-init : goal.loop-byte-init
 unfolding code_of
-loop-i-init c = (omega arith, refl)
+loop-byte-init c = refl
 
-pub loop-i-preserved : goal.loop-i-preserved
-loop-i-preserved c =
-    let s = c.args.bytes.now in
-    (omega arith, code_more s c.loop-i.i c.loop-i.code (omega arith) c.code_step-code.ensures ∙ c.loop-i.invariant.1)
+pub loop-byte-preserved : goal.loop-byte-preserved
+loop-byte-preserved c =
+    code_more c.args.bytes.now c.loop-byte.byte-index c.loop-byte.code (omega arith) c.code_step-code.ensures ∙ c.loop-byte.invariant
 
 pub returns : goal.returns
-returns c =
-    let s = c.args.bytes.now in
-    sym (code_end s c.loop-i.i c.loop-i.code (omega arith)) ∙ c.loop-i.invariant.1
+returns c = sym (code_end c.args.bytes.now c.loop-byte.byte-index c.loop-byte.code (omega arith)) ∙ c.loop-byte.invariant
