@@ -67,11 +67,10 @@ pub fn pack(s: [u8; 16]) -> [u32; layout::SERIAL_WORDS]
 pub fn unpack(a: u32, b: u32, c: u32, d: u32) -> [u8; 16]
     ensures { result ≡ unpacked_all a b c d }
 {
-    let [a0, a1, a2, a3] = a.to_be_bytes();
-    let [b0, b1, b2, b3] = b.to_be_bytes();
-    let [c0, c1, c2, c3] = c.to_be_bytes();
-    let [d0, d1, d2, d3] = d.to_be_bytes();
-    [
-        a0, a1, a2, a3, b0, b1, b2, b3, c0, c1, c2, c3, d0, d1, d2, d3,
-    ]
+    let mut bytes = [0u8; 16];
+    bytes[..4].copy_from_slice(&a.to_be_bytes());
+    bytes[4..8].copy_from_slice(&b.to_be_bytes());
+    bytes[8..12].copy_from_slice(&c.to_be_bytes());
+    bytes[12..].copy_from_slice(&d.to_be_bytes());
+    bytes
 }

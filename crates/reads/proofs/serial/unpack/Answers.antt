@@ -12,4 +12,4 @@ returns c =
     let b = c.to_be_bytes-2.ensures ∙ four_unpacked c.args.b (omega arith) in
     let d = c.to_be_bytes-3.ensures ∙ four_unpacked c.args.c (omega arith) in
     let e = c.to_be_bytes-4.ensures ∙ four_unpacked c.args.d (omega arith) in
-    rw (a, b, d, e)
+    rw (c.copy_from_slice.ensures.after, c.copy_from_slice-2.ensures.after, c.copy_from_slice-3.ensures.after, c.copy_from_slice-4.ensures.after, a, b, d, e)
