@@ -54,6 +54,7 @@ pub fn bytes_at(w: &[u32], h: Header, i: u32) -> [u8; 16]
 }
 
 // Whether card i has a serial of this length and these four words: all bytes are compared and the length, never codes.
+// Kept: length and words stand beside one another as the cell has them, where the layout of the words fixes both.
 pub fn has_key(w: &[u32], h: Header, i: u32, len: u32, key: [u32; SERIAL_WORDS]) -> bool
     requires { Sized w.now h × (1 ≤ i) × (i ≤ h.cards) }
     ensures { result ≡ has_key (shape_in h) w.now i len key }
