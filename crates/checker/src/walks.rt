@@ -3,7 +3,7 @@ ghost use Rattle.std.specs.Prelude.{◌≡◌, ◌≤◌, ◌<◌};
 ghost use Rattle.reads.specs.Cells.{shape_in, limit_of};
 ghost use Rattle.checker.specs.Fits.{Suits, cell_fits};
 ghost use Rattle.checker.specs.Walk.{may_come, DidWalk, DidWalks};
-ghost use Rattle.checker.specs.Checker.{Asks, base_of, chain_of, first_of, reach_of, walk_in, chains_of};
+ghost use Rattle.checker.specs.Checker.{Walkable, base_of, chain_of, first_of, reach_of, walk_in, chains_of};
 
 use crate::chained::Chained;
 use crate::fits::Chain;
@@ -20,7 +20,7 @@ pub struct Walked {
 
 // Whether cell i may come next in a chain.
 fn may_come<P: Chained>(w: &[u32], scratch: &[u8], h: Header, chain: Chain, i: u32) -> bool
-    requires { Asks w.now scratch.now h × Suits h P.faults chain × (1 ≤ i) }
+    requires { Walkable w.now scratch.now h × Suits h P.faults chain × (1 ≤ i) }
     ensures { result ≡ may_come (cell_fits (shape_in h) w.now P.faults chain) scratch.now (base_of (shape_in h) P.faults) (limit_of (shape_in h) P.faults) i }
 {
     i <= P::limit(h)
@@ -36,7 +36,7 @@ pub fn walk<P: Chained>(
     chain: Chain,
     first: u32,
 ) -> Option<Walked>
-    requires { Asks w.now scratch.old h × Suits h P.faults chain }
+    requires { Walkable w.now scratch.old h × Suits h P.faults chain }
     ensures { DidWalk (walk_in (shape_in h) w.now P.faults chain scratch.old first) result scratch.new }
 {
     let mut i = first;
@@ -57,7 +57,7 @@ pub fn walk<P: Chained>(
 
 // The walk of chain j. Which chain it is stands in the part's impl as a literal, so that the compiler makes a loop of its own for each kind.
 fn walk_on<P: Chained>(w: &[u32], scratch: &mut [u8], h: Header, j: u32) -> Option<Walked>
-    requires { Asks w.now scratch.old h × (j < reach_of (shape_in h) P.faults) }
+    requires { Walkable w.now scratch.old h × (j < reach_of (shape_in h) P.faults) }
     ensures { DidWalk (walk_in (shape_in h) w.now P.faults (chain_of P.faults j) scratch.old (first_of (shape_in h) w.now P.faults j)) result scratch.new }
 {
     let first = P::first_of(w, h, j);
@@ -66,7 +66,7 @@ fn walk_on<P: Chained>(w: &[u32], scratch: &mut [u8], h: Header, j: u32) -> Opti
 
 // The walks of chains 0 to n - 1, one after the other over the same marks: how many cells they met.
 pub fn walk_all<P: Chained>(w: &[u32], scratch: &mut [u8], h: Header, n: u32) -> Option<u32>
-    requires { Asks w.now scratch.old h × (n ≤ reach_of (shape_in h) P.faults) }
+    requires { Walkable w.now scratch.old h × (n ≤ reach_of (shape_in h) P.faults) }
     ensures { DidWalks (chains_of (shape_in h) w.now P.faults n scratch.old) result scratch.new }
 {
     let mut total: u32 = 0;
