@@ -59,7 +59,7 @@ unfoldable pub reach_of : Shape → Bool → ℕ
 reach_of sh faults = cond faults sh.limit (top_of sh)
 
 -- what a walk asks: the header is read, and the scratch has a mark for each cell
-pub record Asks (w bytes : List ℕ) (h : Header) : Type 0 where
+pub record Walkable (w bytes : List ℕ) (h : Header) : Type 0 where
   pub read : Read w h
   pub scratch : need (shape_in h) ≤ length bytes
 
@@ -73,7 +73,7 @@ chains_of sh w faults n bytes = walks_from (next_in sh w faults) (base_of sh fau
 
 -- the walk of the free chain
 unfoldable pub free_of : Shape → List ℕ → Bool → List ℕ → Out
-free_of sh w faults bytes = walk_in sh w faults Free bytes (get_or w (cond faults free_faults_at free_at) 0)
+free_of sh w faults bytes = walk_of (cell_fits sh w faults Free) (next_in sh w faults) (base_of sh faults) (limit_of sh faults) bytes (get_or w (cond faults free_faults_at free_at) 0)
 
 -- how many chains there are, and the word that says how many cells stand in them
 unfoldable pub chain_count : Shape → List ℕ → Bool → ℕ

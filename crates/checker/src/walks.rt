@@ -3,7 +3,7 @@ ghost use Rattle.std.specs.Prelude.{◌≡◌, ◌≤◌, ◌<◌};
 ghost use Rattle.reads.specs.Cells.{shape_in, limit_of};
 ghost use Rattle.checker.specs.Fits.{Suits, cell_fits};
 ghost use Rattle.checker.specs.Walk.{may_come, DidWalk, DidWalks};
-ghost use Rattle.checker.specs.Checker.{Asks, base_of, chain_of, first_of, reach_of, walk_in, chains_of};
+ghost use Rattle.checker.specs.Checker.{Walkable, base_of, chain_of, first_of, reach_of, walk_in, chains_of};
 
 use crate::chained::Chained;
 use crate::fits::Chain;
@@ -20,7 +20,7 @@ pub struct Walked {
 
 // Whether cell i may come next in a chain.
 fn may_come<P: Chained>(view: &View, scratch: &[u8], chain: Chain, i: u32) -> bool
-    requires { Asks view.now.words.now scratch.now view.now.header × Suits view.now.header P.faults chain × (1 ≤ i) }
+    requires { Walkable view.now.words.now scratch.now view.now.header × Suits view.now.header P.faults chain × (1 ≤ i) }
     ensures { result ≡ may_come (cell_fits (shape_in view.now.header) view.now.words.now P.faults chain) scratch.now (base_of (shape_in view.now.header) P.faults) (limit_of (shape_in view.now.header) P.faults) i }
 {
     i <= P::limit(view.header)
@@ -30,7 +30,7 @@ fn may_come<P: Chained>(view: &View, scratch: &[u8], chain: Chain, i: u32) -> bo
 
 // Follows a chain from `first` to its end, and marks each cell i as number i - 1 of its part.
 pub fn walk<P: Chained>(view: &View, scratch: &mut [u8], chain: Chain, first: u32) -> Option<Walked>
-    requires { Asks view.now.words.now scratch.old view.now.header × Suits view.now.header P.faults chain }
+    requires { Walkable view.now.words.now scratch.old view.now.header × Suits view.now.header P.faults chain }
     ensures { DidWalk (walk_in (shape_in view.now.header) view.now.words.now P.faults chain scratch.old first) result scratch.new }
 {
     let mut i = first;
@@ -51,7 +51,7 @@ pub fn walk<P: Chained>(view: &View, scratch: &mut [u8], chain: Chain, first: u3
 
 // The walk of chain j. Which chain it is stands in the part's impl as a literal, so that the compiler makes a loop of its own for each kind.
 fn walk_on<P: Chained>(view: &View, scratch: &mut [u8], j: u32) -> Option<Walked>
-    requires { Asks view.now.words.now scratch.old view.now.header × (j < reach_of (shape_in view.now.header) P.faults) }
+    requires { Walkable view.now.words.now scratch.old view.now.header × (j < reach_of (shape_in view.now.header) P.faults) }
     ensures { DidWalk (walk_in (shape_in view.now.header) view.now.words.now P.faults (chain_of P.faults j) scratch.old (first_of (shape_in view.now.header) view.now.words.now P.faults j)) result scratch.new }
 {
     let first = P::first_of(view, j);
@@ -60,7 +60,7 @@ fn walk_on<P: Chained>(view: &View, scratch: &mut [u8], j: u32) -> Option<Walked
 
 // The walks of chains 0 to n - 1, one after the other over the same marks: how many cells they met.
 pub fn walk_all<P: Chained>(view: &View, scratch: &mut [u8], n: u32) -> Option<u32>
-    requires { Asks view.now.words.now scratch.old view.now.header × (n ≤ reach_of (shape_in view.now.header) P.faults) }
+    requires { Walkable view.now.words.now scratch.old view.now.header × (n ≤ reach_of (shape_in view.now.header) P.faults) }
     ensures { DidWalks (chains_of (shape_in view.now.header) view.now.words.now P.faults n scratch.old) result scratch.new }
 {
     let mut total: u32 = 0;

@@ -55,6 +55,7 @@ impl<'a> View<'a> {
     }
 
     // Whether card i has a serial of this length and these four words: all bytes are compared and the length, never codes.
+    // Kept: length and words stand beside one another as the cell has them, where the layout of the words fixes both.
     pub fn has_key(&self, i: u32, len: u32, key: [u32; SERIAL_WORDS]) -> bool
         requires { (1 ≤ i) × (i ≤ self.now.header.cards) }
         ensures { result ≡ has_key (shape_in self.now.header) self.now.words.now i len key }

@@ -45,6 +45,7 @@ fn all_zero(bytes: &[u8]) -> bool
 }
 
 // Sixteen bytes and a length, as a serial travels: allowed up to the length, zero from there on.
+// Kept: the rules of the product fix that form, sixteen bytes by value with their length beside them.
 pub fn valid_serial(serial: [u8; 16], len: usize) -> bool
     ensures { result ≡ valid_serial serial len }
 {
