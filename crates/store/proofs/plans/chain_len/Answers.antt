@@ -4,7 +4,7 @@ use mathlib.Core.List.{List, ◌∷◌}
 use Prim.Native.Nat.{ℕ, ◌+◌}
 use native.Mathlib.Omega.{arith}
 use lib.ListN.{length}
-use Rattle.reads.proofs.AlongLaws.{along_start, along_from, along_to, along_less, along_below, along_next, along_end}
+use Rattle.reads.proofs.AlongLaws.{along_from, along_to, along_below, along_next, along_end}
 use Rattle.store.proofs.plans.chain_len.Goals as goal
 
 pub overflow_add-n : goal.overflow_add-n
