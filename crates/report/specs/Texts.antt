@@ -22,6 +22,17 @@ row_lines rows k n = join (map (λ k. row_line k (row_of rows k)) (from k n))
 unfoldable pub text_of : List Row → Totals → List ℕ
 text_of rows t = row_lines rows 1 most_code ++ total_lines t.cards t.entries
 
+-- the most bytes of n numbers: ten digits each, and the space or the LF behind it
+abbrev pub longest_of : ℕ → ℕ
+longest_of n = 11 * n
+
+-- of a code's line, which has five numbers, and of the totals, which have four
+abbrev pub longest_row : ℕ
+longest_row = longest_of 5
+
+abbrev pub longest_totals : ℕ
+longest_totals = longest_of 4
+
 -- the most entries of a report, which a thousand times still fit in 32 bits
 abbrev pub most_rated : ℕ
 most_rated = most_stores * faults_ever
