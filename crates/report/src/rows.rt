@@ -72,7 +72,7 @@ pub struct Totals {
 
 // Notes the history from fault cell `first` on, of card n. The next cell is read before a fault is noted, and in `note_store` the next card
 // before a history is: a processor then has it sooner.
-fn note_history(w: &[u32], h: Header, first: u32, rows: &mut [Row], n: u32)
+fn note_history(w: &[u32], h: Header, first: u32, rows: &mut [Row; ROWS], n: u32)
     requires { Sized w.now h × Ends h.faults (next_fault (shape_in h) w.now) first × (codes_fit (slips_from (shape_in h) w.now first) ≡ true) × Takes rows.old (length (slips_from (shape_in h) w.now first)) }
     ensures { rows.new ≡ note_history rows.old n (slips_from (shape_in h) w.now first) }
 {
@@ -89,7 +89,7 @@ fn note_history(w: &[u32], h: Header, first: u32, rows: &mut [Row], n: u32)
 }
 
 // Notes the histories of all cards of a sound store. The cards of the stores before it are counted, and numbered, already.
-pub fn note_store(w: &[u32], rows: &mut [Row], sum: Totals) -> Totals
+pub fn note_store(w: &[u32], rows: &mut [Row; ROWS], sum: Totals) -> Totals
     requires { (sound w.now ≡ true) × Takes rows.old (total length (histories_in w.now)) × (sum.cards + cards_ever < word_top) × (sum.entries + faults_ever < word_top) }
     ensures { Noted w.now sum rows.old result rows.new }
 {

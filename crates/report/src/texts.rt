@@ -8,7 +8,7 @@ ghost use Rattle.store.specs.Leaves.{wrote_of};
 ghost use Rattle.report.specs.Rows.{rows_long};
 ghost use Rattle.report.specs.Texts.{row_line, row_lines, text_of, most_rated, PutsReport};
 
-use crate::rows::{MOST_CODE, Row, Totals};
+use crate::rows::{MOST_CODE, ROWS, Row, Totals};
 use store::Refusal;
 use text::letters;
 use text::sink::{self, Count, Sink, Writer};
@@ -41,8 +41,8 @@ fn put_row<S: Sink>(sink: &mut S, code: u32, row: Row)
 }
 
 // The lines of all codes.
-fn put_rows<S: Sink>(sink: &mut S, rows: &[Row])
-    requires { (length rows.now ≡ rows_long) × (length (row_lines rows.now 1 most_code) ≤ S.room sink.old) }
+fn put_rows<S: Sink>(sink: &mut S, rows: &[Row; ROWS])
+    requires { length (row_lines rows.now 1 most_code) ≤ S.room sink.old }
     ensures { S.Takes sink.old (row_lines rows.now 1 most_code) sink.new }
 {
     for code in 1..=MOST_CODE {
@@ -72,8 +72,8 @@ fn put_totals<S: Sink>(sink: &mut S, t: Totals)
 }
 
 // The whole text.
-fn put_text<S: Sink>(sink: &mut S, rows: &[Row], t: Totals)
-    requires { (length rows.now ≡ rows_long) × (t.entries ≤ most_rated) × (length (text_of rows.now t) ≤ S.room sink.old) }
+fn put_text<S: Sink>(sink: &mut S, rows: &[Row; ROWS], t: Totals)
+    requires { (t.entries ≤ most_rated) × (length (text_of rows.now t) ≤ S.room sink.old) }
     ensures { S.Takes sink.old (text_of rows.now t) sink.new }
 {
     put_rows(sink, rows);
@@ -81,8 +81,8 @@ fn put_text<S: Sink>(sink: &mut S, rows: &[Row], t: Totals)
 }
 
 // Writes the whole text at the front of an output that has room for it, and gives its length.
-fn write_text(out: &mut [u8], rows: &[Row], t: Totals) -> usize
-    requires { (length rows.now ≡ rows_long) × (t.entries ≤ most_rated) × (length (text_of rows.now t) ≤ length out.old) }
+fn write_text(out: &mut [u8], rows: &[Row; ROWS], t: Totals) -> usize
+    requires { (t.entries ≤ most_rated) × (length (text_of rows.now t) ≤ length out.old) }
     ensures { Puts out.old 0 (text_of rows.now t) result out.new }
 {
     let mut writer = Writer { out, at: 0 };
@@ -91,8 +91,8 @@ fn write_text(out: &mut [u8], rows: &[Row], t: Totals) -> usize
 }
 
 // The whole text at the front of the output, and its length; nothing where it does not fit.
-pub fn put_report(out: &mut [u8], rows: &[Row], t: Totals) -> Result<u32, Refusal>
-    requires { (length rows.now ≡ rows_long) × (t.entries ≤ most_rated) }
+pub fn put_report(out: &mut [u8], rows: &[Row; ROWS], t: Totals) -> Result<u32, Refusal>
+    requires { t.entries ≤ most_rated }
     ensures { PutsReport (text_of rows.now t) out.old (wrote_of result) out.new }
 {
     let mut count = Count { bytes: 0 };
