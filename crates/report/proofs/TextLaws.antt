@@ -21,7 +21,7 @@ use Rattle.report.specs.Rows.{row_of}
 use Rattle.store.specs.Leaves.{wrote_of}
 use Rattle.std.proofs.Common.{Ok}
 use Rattle.report.specs.Texts.{row_line, row_lines, text_of, PutsReport}
-use Rattle.report.specs.declared.rows.Totals.{Totals}
+use Rattle.report.specs.declared.totals.Totals.{Totals}
 
 -- a line is its first number, the others with a space before each, and LF
 

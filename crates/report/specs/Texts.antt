@@ -2,13 +2,12 @@
 use Rattle.std.specs.Prelude.{cond, List, [], ◌∷◌, ◌++◌, map, ℕ, ◌*◌, eqb}
 use Rattle.model.specs.Lists.{join, from}
 use Rattle.model.specs.Serial.{most_code}
-use Rattle.model.specs.Shape.{faults_ever}
-use Rattle.model.specs.Report.{most_stores, numbers_line, total_lines, written_report}
+use Rattle.model.specs.Report.{numbers_line, total_lines, written_report}
 use Rattle.store.specs.declared.answer.Wrote.{Wrote}
 use Rattle.report.specs.Rows.{row_of}
 use Rattle.report.specs.declared.rows.Row.{Row}
 use Rattle.report.specs.Reports.{Reports}
-use Rattle.report.specs.declared.rows.Totals.{Totals}
+use Rattle.report.specs.declared.totals.Totals.{Totals}
 
 -- the line of a code, none where it has no entry
 unfoldable pub row_line : ℕ → Row → List ℕ
@@ -32,10 +31,6 @@ longest_row = longest_of 5
 
 abbrev pub longest_totals : ℕ
 longest_totals = longest_of 4
-
--- the most entries of a report, which a thousand times still fit in 32 bits
-abbrev pub most_rated : ℕ
-most_rated = most_stores * faults_ever
 
 -- a text at the front of an output, or number 10 and nothing where it does not fit; the scratch has no part in it
 abbrev pub PutsReport : List ℕ → List ℕ → Wrote → List ℕ → Type 0

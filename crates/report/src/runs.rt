@@ -4,7 +4,8 @@ ghost use Rattle.model.specs.Report.{most_stores, run_sound, need_of};
 ghost use Rattle.report.specs.Rows.{blank};
 ghost use Rattle.report.specs.Runs.{Clean, NotedAll};
 
-use crate::rows::{self, ROWS, Row, Totals};
+use crate::rows::{self, ROWS, Row};
+use crate::totals::Totals;
 
 // The most stores of a report.
 pub const MOST_STORES: usize = 8;
