@@ -1,7 +1,7 @@
--- What a narrow writer did to a part that was lent on, said of the whole words: `word_lent` for one word of a cell, `words_lent` for the
--- first words of one, `bucket_lent` for a bucket's word.
+-- What a narrow writer did to a part that was lent on, said of the whole words: `word_lent` for one word of a cell (`card_lent` and
+-- `fault_lent` in the two parts), `words_lent` for the first words of one, `bucket_lent` for a bucket's word.
 -- The writes of a change, in a row, are the model's function on words (`place_is`, `file_is`, `remove_is`).
-use mathlib.Core.Path.{◌≡◌, sym, ap, ◌∙◌}
+use mathlib.Core.Path.{◌≡◌, refl, sym, ap, subst, ◌∙◌}
 use mathlib.Core.Bool.{Bool, true, false, cond}
 use mathlib.Core.List.{List, [], ◌∷◌, ◌++◌, append_assoc}
 use Prim.Native.Nat.{ℕ, suc, ◌+◌, ◌-◌, ◌*◌, ◌≤◌, ◌<◌}
@@ -118,6 +118,26 @@ module _ {w : List ℕ} {h : Header} (s : Sized w h) where
           let e = cell_whole width i (length (mid_of start (start + width * limit - start) w)) low (cell_room i high) in
           lent_sets w ys start (start + width * limit) (width * (i - 1)) vs (part_end faults p z l) r (omega (arith, part_long, z))
           ∙ ap (λ (n : ℕ). sets w n vs) (omega (arith, place_in faults p z i to_next))
+
+-- the same of each of the two parts, from where the header says
+module _ {w : List ℕ} {h : Header} (s : Sized w h) (ys : List ℕ) (i : ℕ) (low : 1 ≤ i) (k v : ℕ) where
+  pub card_lent : i ≤ h.cards → k < h.width → ys ≡ set (mid_of h.base (h.behind - h.base) w) (h.width * (i - 1) + k) v
+      → put_mid h.base (h.behind - h.base) w ys ≡ set w (card_at (shape_in h) i k) v
+  unfolding limit_of width_of faults_at
+  card_lent b l r =
+      let e : h.width * h.cards ≡ card_width (shape_in h) * h.cards = ap (λ (n : ℕ). n * h.cards) s.width in
+      let n : h.base + h.width * h.cards - h.base ≡ h.behind - h.base = omega (arith, e, s.base, s.behind) in
+      subst (λ (n : ℕ). put_mid h.base n w ys ≡ set w (card_at (shape_in h) i k) v) n
+      (word_lent s false refl s.width refl ys i low b k v (omega (arith, s.width)) (r ∙ ap (λ (n : ℕ). set (mid_of h.base n w) (h.width * (i - 1) + k) v) (sym n)))
+
+  pub fault_lent : i ≤ h.faults → k < fault_width → ys ≡ set (mid_of h.behind (length w - h.behind) w) (fault_width * (i - 1) + k) v
+      → put_mid h.behind (length w - h.behind) w ys ≡ set w (fault_at (shape_in h) i k) v
+  unfolding limit_of width_of
+  fault_lent b l r =
+      let m = s.room in
+      let n : h.behind + fault_width * h.faults - h.behind ≡ length w - h.behind = omega (arith, m.whole) in
+      subst (λ (n : ℕ). put_mid h.behind n w ys ≡ set w (fault_at (shape_in h) i k) v) n
+      (word_lent s true refl refl refl ys i low b k v l (r ∙ ap (λ (n : ℕ). set (mid_of h.behind n w) (fault_width * (i - 1) + k) v) (sym n)))
 
 -- the next word of a cell of a chain, or the bucket's word
 pub link_bucket : (sh : Shape) (b : ℕ) {i : ℕ} → i ≡ 0 → segments_at sh + b ≡ link_at sh b i
