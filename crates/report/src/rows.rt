@@ -1,7 +1,7 @@
 // A row for each code: every fault of every history is noted once, in the row of its code.
-ghost use Rattle.std.specs.Prelude.{◌≡◌, true, ◌+◌, ◌<◌, length};
+ghost use Rattle.std.specs.Prelude.{◌≡◌, true, ◌+◌, ◌*◌, ◌≤◌, ◌<◌, length};
 ghost use Rattle.model.specs.Lists.{total};
-ghost use Rattle.model.specs.Report.{histories_in};
+ghost use Rattle.model.specs.Report.{most_stores, histories_in};
 ghost use Rattle.model.specs.Meaning.{next_fault};
 ghost use Rattle.model.specs.Bounds.{cards_ever};
 ghost use Rattle.model.specs.Shape.{faults_ever};
@@ -9,6 +9,7 @@ ghost use Rattle.reads.specs.Cells.{shape_in};
 ghost use Rattle.reads.specs.Chains.{Ends};
 ghost use Rattle.report.specs.Rows.{slips_from, note_row, note_history, codes_fit, word_top, Takes, Noted};
 
+use crate::totals::Totals;
 use store::{Sound, View};
 
 // The highest code.
@@ -62,16 +63,9 @@ impl Row {
     }
 }
 
-// The cards and the entries of the stores so far.
-#[derive(Clone, Copy)]
-pub struct Totals {
-    pub cards: u32,
-    pub entries: u32,
-}
-
 // Notes the history from fault cell `first` on, of card n. The next cell is read before a fault is noted, and in `note_store` the next card
 // before a history is: a processor then has it sooner.
-fn note_history(view: &View, first: u32, rows: &mut [Row], n: u32)
+fn note_history(view: &View, first: u32, rows: &mut [Row; ROWS], n: u32)
     requires { Ends view.now.header.faults (next_fault (shape_in view.now.header) view.now.words.now) first × (codes_fit (slips_from (shape_in view.now.header) view.now.words.now first) ≡ true) × Takes rows.old (length (slips_from (shape_in view.now.header) view.now.words.now first)) }
     ensures { rows.new ≡ note_history rows.old n (slips_from (shape_in view.now.header) view.now.words.now first) }
 {
@@ -88,8 +82,8 @@ fn note_history(view: &View, first: u32, rows: &mut [Row], n: u32)
 }
 
 // Notes the histories of all cards of a sound store. The cards of the stores before it are counted, and numbered, already.
-pub fn note_store(store: &Sound, rows: &mut [Row], sum: Totals) -> Totals
-    requires { Takes rows.old (total length (histories_in store.now.view.words.now)) × (sum.cards + cards_ever < word_top) × (sum.entries + faults_ever < word_top) }
+pub fn note_store(store: &Sound, rows: &mut [Row; ROWS], sum: Totals) -> Totals
+    requires { Takes rows.old (total length (histories_in store.now.view.words.now)) × (sum.cards + cards_ever < word_top) × (sum.entries + total length (histories_in store.now.view.words.now) ≤ most_stores * faults_ever) }
     ensures { Noted store.now.view.words.now sum rows.old result rows.new }
 {
     let entries = sum.entries + store.view.words[store::FAULTS_HELD_AT];

@@ -61,3 +61,7 @@ returns c =
       cards_are = omega (arith, e.0, cards_held c.args.store.now.view.words.now);
       entries_are = omega (arith, filed_word c.args.store.now.sound c.args.store.now.read, faults_filed c.args.store.now.view.words.now);
     }
+
+pub invariant_of-result : goal.invariant_of-result
+invariant_of-result c =
+    omega (arith, filed_word c.args.store.now.sound c.args.store.now.read, faults_filed c.args.store.now.view.words.now, c.requires.2)
