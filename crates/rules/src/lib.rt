@@ -45,10 +45,15 @@ pub extern "C" fn reader_code(bytes: &[u8]) -> u32
 
 // The code of a serial that travels as sixteen bytes and its length; a length past 16 counts as 16.
 // Kept: a rule of the project, that a serial travels as `[u8; 16]` by value beside its length.
+// Kept: tried as `&serial[..len.min(SERIAL)]`, and the test of a full store took 10 % more instructions.
 pub fn serial_code(serial: [u8; 16], len: usize) -> u32
     ensures { result ≡ code_of (take len serial) }
 {
-    reader_code(&serial[..len.min(SERIAL)])
+    if len <= SERIAL {
+        reader_code(&serial[..len])
+    } else {
+        reader_code(&serial)
+    }
 }
 
 // Whether (maxp, p) is a state of a table of at most `top` buckets.

@@ -1,8 +1,10 @@
 // Open and the calls on a store, as a line of a script or a number asks for them.
+ghost use Rattle.std.specs.Prelude.{◌≡◌};
 ghost use Rattle.model.specs.Calls.{open_call, asked};
 ghost use Rattle.model.specs.Runs.{outcome};
 ghost use Rattle.store.specs.Leaves.{Leaves, Opens};
 ghost use Rattle.script.specs.Calls.{act_of, room_for};
+ghost use Rattle.script.specs.Lines.{number_in};
 
 use crate::lines::Line;
 use crate::serials::Serial;
@@ -19,7 +21,12 @@ pub struct Terms {
 
 impl Terms {
     // The four numbers behind the letter of a line.
-    pub fn of_line(line: Line) -> Terms {
+    pub fn of_line(line: Line) -> Terms
+        ensures cards { result.cards ≡ number_in line.entry.bytes.now 1 }
+        ensures faults { result.faults ≡ number_in line.entry.bytes.now 2 }
+        ensures upper { result.upper ≡ number_in line.entry.bytes.now 3 }
+        ensures lower { result.lower ≡ number_in line.entry.bytes.now 4 }
+    {
         Terms {
             cards: line.number(1),
             faults: line.number(2),

@@ -1,6 +1,6 @@
 // A script is lines of a letter and fields, parted by single spaces.
 ghost use Rattle.std.specs.Prelude.{◌≡◌, ◌+◌, ◌≤◌, ◌==◌, length, drop, position, slice_index_or};
-ghost use Rattle.script.specs.Lines.{before, without_lf};
+ghost use Rattle.script.specs.Lines.{before, without_lf, field, number_in};
 
 use crate::numbers;
 
@@ -46,13 +46,19 @@ impl<'a> Line<'a> {
 
     // A field, the letter being field 0; one that is not there is empty.
     pub fn field(self, k: usize) -> &'a [u8]
-        ensures { length result.now ≤ length self.entry.bytes.now }
+        ensures { result.now ≡ field self.entry.bytes.now k }
     {
-        self.bytes.split(|b| *b == b' ').nth(k).unwrap_or(&[])
+        let mut rest = self.bytes;
+        for _i in 0..k {
+            rest = cut(rest, b' ').1;
+        }
+        cut(rest, b' ').0
     }
 
     // The number in a field; 0 where there is no such field.
-    pub fn number(self, k: usize) -> u32 {
+    pub fn number(self, k: usize) -> u32
+        ensures { result ≡ number_in self.entry.bytes.now k }
+    {
         numbers::of_digits(self.field(k))
     }
 }

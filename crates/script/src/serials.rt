@@ -1,4 +1,5 @@
 // A serial as it travels: sixteen bytes, and how many of them count.
+// Kept: a rule of the project, that a serial is a `[u8; 16]` by value beside its length, and no slice.
 ghost use Rattle.std.specs.Prelude.{◌≡◌, ℕ, ◌<◌, ◌++◌, length, slice_index_or};
 
 use std::array;
