@@ -11,39 +11,21 @@ ghost use Rattle.std.specs.Prelude.{◌≡◌, ◌-◌, ◌≤◌, length, take}
 ghost use Rattle.depot.specs.Reading.{step_of, Brings, Within};
 
 use std::io;
-use std::io::{Read, Write};
+use std::io::{Error, ErrorKind, Read, Write};
 
-// What one read brings.
-#[derive(Clone, Copy)]
-enum Step {
-    More(usize),
-    End,
-    Failed,
-}
-
-// The input at the front of a buffer, to its end or to the buffer's; or that a read failed.
-#[derive(Clone, Copy)]
-enum Input {
-    Whole(usize),
-    Unread,
-}
-
-// What the answer of a read says.
-fn brought(got: io::Result<usize>) -> Step
+// What the answer of a read says: so many bytes came, or none since the input has ended; an error is no end.
+fn brought(got: io::Result<usize>) -> io::Result<Option<usize>>
     ensures { result ≡ step_of got }
 {
-    let Ok(n) = got else {
-        return Step::Failed;
-    };
-    if n == 0 {
-        return Step::End;
+    match got? {
+        0 => Ok(None),
+        more => Ok(Some(more)),
     }
-    Step::More(n)
 }
 
 // One read into what is behind the first `len` bytes; those stay as they are. An interrupted read
 // counts as a failed one.
-fn read_on<R: Read>(input: &mut R, buf: &mut [u8], len: usize) -> Step
+fn read_on<R: Read>(input: &mut R, buf: &mut [u8], len: usize) -> io::Result<Option<usize>>
     requires { len ≤ length buf.old }
     ensures brings { Brings (length buf.old - len) result }
     ensures buf_unchanged { take len buf.new ≡ take len buf.old }
@@ -52,53 +34,52 @@ fn read_on<R: Read>(input: &mut R, buf: &mut [u8], len: usize) -> Step
     brought(got)
 }
 
-// Reads until the input ends, a read fails or the buffer is full.
-fn read_all<R: Read>(input: &mut R, buf: &mut [u8]) -> Input
+// Reads until the input ends, a read fails or the buffer is full: how many bytes stand at the front.
+fn read_all<R: Read>(input: &mut R, buf: &mut [u8]) -> io::Result<usize>
     ensures { Within (length buf.new) result }
 {
-    let mut len: usize = 0;
+    let mut len = 0;
+    // Kept: what may not change, that an interrupted read fails; std's `read_to_end` would read again, and wants a Vec.
     while len < buf.len() {
-        match read_on(input, buf, len) {
-            Step::More(n) => len += n,
-            Step::End => return Input::Whole(len),
-            Step::Failed => return Input::Unread,
-        }
+        let Some(more) = read_on(input, buf, len)? else {
+            break;
+        };
+        len += more;
     }
-    Input::Whole(len)
+    Ok(len)
 }
 
-// Writes all of the bytes and returns true, or stops at the first write that takes nothing or fails,
-// as one that is interrupted, and returns false.
-fn write_all<W: Write>(output: &mut W, bytes: &[u8]) -> bool {
-    let mut done: usize = 0;
-    while done < bytes.len() {
-        match output.write(&bytes[done..]) {
-            Ok(n) if n > 0 => done += n,
-            _ => return false,
+// Writes all of the bytes, or stops at the first write that takes nothing or fails, as one that is
+// interrupted.
+fn write_all<W: Write>(output: &mut W, bytes: &[u8]) -> io::Result<()> {
+    let mut rest = bytes;
+    // Kept: what may not change, that an interrupted write fails; std's `write_all` would write again.
+    while !rest.is_empty() {
+        match output.write(rest)? {
+            0 => return Err(Error::from(ErrorKind::WriteZero)),
+            taken => rest = &rest[taken..],
         }
     }
-    true
+    Ok(())
 }
 
 // Writes the answers of a job.
 fn write_answers(rt: &HostRuntime, job: &[u8]) {
     let text = reader::answer(job);
-    let bytes = text.bytes;
-    let len = text.len;
-    if !write_all(&mut rt.stdout(), &bytes[..len]) {
+    if write_all(&mut rt.stdout(), text.as_slice()).is_err() {
         say(rt, b"depot: the answers could not all be written\n");
     }
 }
 
 fn say(rt: &HostRuntime, text: &[u8]) {
-    write_all(&mut rt.stderr(), text);
+    let _ = write_all(&mut rt.stderr(), text);
 }
 
 fn main(rt: HostRuntime) {
     let mut input = [0u8; reader::INPUT];
     match read_all(&mut rt.stdin(), &mut input) {
-        Input::Whole(len) => write_answers(&rt, &input[..len]),
-        Input::Unread => say(
+        Ok(len) => write_answers(&rt, &input[..len]),
+        Err(_) => say(
             &rt,
             b"depot: the input could not be read to its end, so no line of it was run\n",
         ),

@@ -21,7 +21,7 @@ use text::pieces::Lines;
 
 // How a job ended: its number, 0 if all lines were answered, the lines done and the bytes written.
 #[repr(C)]
-#[derive(Clone, Copy)]
+#[derive(Clone, Copy, Debug, PartialEq, Eq)]
 pub struct Done {
     pub number: u32,
     pub lines: u32,
@@ -29,7 +29,7 @@ pub struct Done {
 }
 
 // The same with the tally after the job.
-#[derive(Clone, Copy)]
+#[derive(Clone, Copy, Debug, PartialEq, Eq)]
 pub struct Ran {
     pub done: Done,
     pub tally: Tally,

@@ -7,7 +7,7 @@ ghost use Rattle.job.specs.Counts.{tally_of, entering, withdrawing, filing, coun
 use super::fields::Request;
 
 #[repr(C)]
-#[derive(Clone, Copy)]
+#[derive(Clone, Copy, Debug, Default, PartialEq, Eq)]
 pub struct Tally {
     pub entries: u64,
     pub withdrawals: u64,

@@ -1,4 +1,4 @@
--- The closing line: none for 0 (`closing_none`), else four numbers and LF (`closing_is`), at most nine bytes for a number of two digits (`closing_long`).
+-- The closing line: none for 0 (`closing_none`), else its line (`closing_some`) of four numbers and LF (`line_is`), at most nine bytes for a number of two digits (`closing_long`).
 use Prim.Native.Nat.{ℕ, ◌/◌, ◌≤◌}
 use mathlib.Core.Path.{◌≡◌}
 use mathlib.Core.List.{[], ◌∷◌, ◌++◌, append_assoc}
@@ -11,7 +11,7 @@ use Rattle.model.specs.Text.{decimal}
 use Rattle.text.specs.Decimals.{marked}
 use Rattle.text.proofs.DecimalLaws.{decimal_small, decimal_one, decimal_less}
 use Rattle.job.specs.Answers.{numbers_of}
-use Rattle.reader.specs.Depot.{closing_size, closing}
+use Rattle.reader.specs.Depot.{closing_size, closing, closing_line}
 
 pub closing_none : (n : ℕ) → n ≡ 0 → closing n ≡ []
 unfolding closing
@@ -20,9 +20,13 @@ closing_none n e = rw e
 zero_text : decimal 0 ≡ 48 ∷ []
 zero_text = decimal_small 0 (omega arith)
 
-pub closing_is : (n : ℕ) → (n ≡ 0 → ⊥) → closing n ≡ numbers_of n 0 0 0 ++ (10 ∷ [])
-unfolding closing numbers_of marked
-closing_is n h = rw (ne_eqb n 0 h, zero_text, append_assoc (decimal n) _ (10 ∷ []))
+pub closing_some : (n : ℕ) → (n ≡ 0 → ⊥) → closing n ≡ closing_line n
+unfolding closing
+closing_some n h = rw (ne_eqb n 0 h)
+
+pub line_is : (n : ℕ) → closing_line n ≡ numbers_of n 0 0 0 ++ (10 ∷ [])
+unfolding numbers_of marked
+line_is n = rw (zero_text, append_assoc (decimal n) _ (10 ∷ []))
 
 two_digits : (n : ℕ) → n ≤ 99 → length (decimal n) ≤ 2
 two_digits n h =

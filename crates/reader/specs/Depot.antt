@@ -51,8 +51,11 @@ unfoldable pub nothing : Tally
 nothing = record { entries = 0; withdrawals = 0; filings = 0; splits = 0; contractions = 0; comparisons = 0 }
 
 -- the number, then ` 0 0 0` and LF; nothing where all lines were answered
+abbrev pub closing_line : ℕ → List ℕ
+closing_line n = decimal n ++ (space ∷ digit_zero ∷ space ∷ digit_zero ∷ space ∷ digit_zero ∷ lf ∷ [])
+
 unfoldable pub closing : ℕ → List ℕ
-closing n = cond (eqb n 0) [] (decimal n ++ (space ∷ digit_zero ∷ space ∷ digit_zero ∷ space ∷ digit_zero ∷ lf ∷ []))
+closing n = cond (eqb n 0) [] (closing_line n)
 
 -- the bytes written by a job, and the closing line behind them
 unfoldable pub whole_text : Finished → List ℕ

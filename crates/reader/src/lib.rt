@@ -1,15 +1,17 @@
 // One job on a store, and all that is written for it; the bench reader's is one on a fresh store.
 #![tactic(auto)]
 
-ghost use Rattle.std.specs.Prelude.{◌≡◌, ◌+◌, ◌≤◌, length};
+ghost use Rattle.std.specs.Prelude.{◌≡◌, ◌+◌, ◌≤◌, length, take};
 ghost use Rattle.model.specs.Shape.{need};
 ghost use Rattle.model.specs.Layout.{shape_of};
 ghost use Rattle.model.specs.Job.{job};
 ghost use Rattle.text.specs.Decimals.{Puts};
-ghost use Rattle.reader.specs.Depot.{opened, whole_size, blank, nothing, closing, job_on, depot_text, Ended, Writes, Answers};
+ghost use Rattle.reader.specs.Depot.{opened, whole_size, blank, nothing, closing, closing_line, job_on, depot_text, Ended, Writes, Answers};
 
 use job::{Done, Tally, answers};
-use text::{decimals, letters};
+use store::Answer;
+use text::letters::LF;
+use text::sink::{Sink, Writer};
 
 // The limits of the store, C and F, and its load bounds, U and L.
 const CARDS: u32 = 256;
@@ -42,7 +44,7 @@ fn fresh_store() -> [u32; WORDS]
     ensures { result ≡ opened }
 {
     let mut words = [0u32; WORDS];
-    store::open(&mut words, CARDS, FAULTS, UPPER, LOWER);
+    store::open(&mut words, CARDS, FAULTS, UPPER, LOWER).unwrap();
     words
 }
 
@@ -51,17 +53,34 @@ fn run_on(words: &mut [u32], input: &[u8], out: &mut [u8]) -> Done
     ensures { Ended (job words.old (blank (need (shape_of words.old))) input.now out.old nothing) result words.new out.new }
 {
     let mut scratch = [0u8; store::NEED];
-    let none = Tally {
-        entries: 0,
-        withdrawals: 0,
-        filings: 0,
-        splits: 0,
-        contractions: 0,
+    let none = Tally::default();
+    let ran = job::work(words, &mut scratch, input, out, none);
+    ran.done
+}
+
+// The closing line of a job that stops: its number and three zeros.
+fn put_closing<S: Sink>(sink: &mut S, number: u32)
+    requires { length (closing_line number) ≤ S.room sink.old }
+    ensures { S.Takes sink.old (closing_line number) sink.new }
+{
+    let answer = Answer {
+        number,
         comparisons: 0,
+        scanned: 0,
+        faults: 0,
     };
-    let r = job::work(words, &mut scratch, input, out, none);
-    let done = r.done;
-    done
+    answers::put_numbers(sink, answer);
+    sink.put_byte(LF);
+}
+
+// The same from `at` on; the place behind it.
+fn put_closing_at(out: &mut [u8], at: usize, number: u32) -> usize
+    requires { at + length (closing_line number) ≤ length out.old }
+    ensures { Puts out.old at (closing_line number) result out.new }
+{
+    let mut line = Writer { out, at };
+    put_closing(&mut line, number);
+    line.at
 }
 
 // The closing line of a job that stops, behind what is written.
@@ -72,12 +91,11 @@ pub fn close(out: &mut [u8], at: usize, number: u32) -> usize
     if number == 0 {
         return at;
     }
-    let end = answers::put_numbers(out, at, number, 0, 0, 0);
-    decimals::put_byte(out, end, letters::LF)
+    put_closing_at(out, at, number)
 }
 
 // A job's number, and the length of all that is written for it.
-#[derive(Clone, Copy)]
+#[derive(Clone, Copy, Debug, PartialEq, Eq)]
 pub struct Answered {
     pub number: u32,
     pub len: usize,
@@ -99,6 +117,16 @@ pub fn answer_on(words: &mut [u32], input: &[u8], out: &mut [u8]) -> Answered
 pub struct Text {
     pub bytes: [u8; WHOLE],
     pub len: usize,
+    ghost within: { len ≤ length bytes },
+}
+
+impl Text {
+    // The text alone.
+    pub fn as_slice(&self) -> &[u8]
+        ensures { result.now ≡ take self.now.len self.now.bytes }
+    {
+        &self.bytes[..self.len]
+    }
 }
 
 // All that `depot` writes for an input.
@@ -106,8 +134,8 @@ pub fn answer(input: &[u8]) -> Text
     ensures { Writes (depot_text input.now) (blank whole_size) result.len result.bytes }
 {
     let mut words = fresh_store();
-    let mut out = [0u8; WHOLE];
-    let r = answer_on(&mut words, input, &mut out);
-    let len = r.len;
-    Text { bytes: out, len }
+    let mut bytes = [0u8; WHOLE];
+    let answered = answer_on(&mut words, input, &mut bytes);
+    let len = answered.len;
+    Text { bytes, len }
 }

@@ -4,10 +4,10 @@ use lib.ListN.{length-replicate}
 use Rattle.reader.specs.Depot.{output_size, whole_size, blank, depot_text}
 use Rattle.reader.proofs.answer.Goals as goal
 
-pub answer_on-r-requires : goal.answer_on-r-requires
+pub answer_on-answered-requires : goal.answer_on-answered-requires
 unfolding output_size
-answer_on-r-requires c = length-replicate {A = ℕ} whole_size 0
+answer_on-answered-requires c = length-replicate {A = ℕ} whole_size 0
 
 pub returns : goal.returns
 unfolding output_size blank depot_text
-returns c = rw (← c.fresh_store-words.ensures) c.answer_on-r.ensures.text_is
+returns c = rw (← c.fresh_store-words.ensures) c.answer_on-answered.ensures.text_is
