@@ -31,13 +31,7 @@ const FAULT_BYTES: usize = 4 * store::FAULT_WIDTH;
 pub fn sized(n: usize) -> bool
     ensures { result ≡ Desk·sized n }
 {
-    if n < LEAST_BYTES {
-        return false;
-    }
-    if BYTES < n {
-        return false;
-    }
-    (n - LEAST_BYTES) % FAULT_BYTES == 0
+    (LEAST_BYTES..=BYTES).contains(&n) && (n - LEAST_BYTES) % FAULT_BYTES == 0
 }
 
 // Room for so many elements. The `ensures` gives only the length, so that no proof counts the zeros.
