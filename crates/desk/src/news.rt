@@ -1,10 +1,8 @@
 // desk new FILE CARDS FAULTS [UPPER LOWER].
-use crate::files::tried;
 use crate::tell::{Action, Complaint, Failure};
 use crate::{Names, argument_or, files, tell};
 use disk::opens::Fields;
 use disk::{opens, texts};
-use std::fs::File;
 use std::io::ErrorKind;
 use store::Refusal;
 

@@ -9,6 +9,7 @@ use store::Refusal;
 use text::numbers;
 
 // An argument's value; what is no number counts as 0, which no limit and no bound may be.
+// Kept: what may not change, the definition `argument` of specs/Desk.antt, by which 0 goes on to Open and is refused there.
 fn argument(field: &[u8]) -> u32
     ensures { result ≡ Desk·argument field.now }
 {
