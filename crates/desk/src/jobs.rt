@@ -5,6 +5,7 @@ use crate::tell::{Action, Complaint, Failure};
 use crate::{Names, files, tell};
 use disk::lasts;
 use std::fs::File;
+use store::Refusal;
 
 // The bytes of a job's text that are read; a longer one is too long, and the rest of it makes no difference.
 const TEXT: usize = 65536;
@@ -33,12 +34,19 @@ fn save_last<'a>(
     )
 }
 
+// The numbers of a job that is refused, or has stopped.
+const NOT_SOUND: u32 = Refusal::NotSound as u32;
+
+const SHORT_ROOM: u32 = Refusal::ShortRoom as u32;
+
+const LONG_TEXT: u32 = Refusal::LongText as u32;
+
 // What a job's number means, where it is not 0; the file had so many bytes.
 fn explain<'a>(path: &'a [u8], len: usize, number: u32) -> Result<(), Complaint<'a>> {
     match number {
         0 => Ok(()),
-        3 => Err(Complaint::no_store(path, len)),
-        13 => Err(Complaint::LongJob),
+        NOT_SOUND => Err(Complaint::no_store(path, len)),
+        LONG_TEXT => Err(Complaint::LongJob),
         _ => Err(Complaint::Stopped),
     }
 }
@@ -53,7 +61,7 @@ fn answer<'a>(
 ) -> Result<(), Complaint<'a>> {
     match files::write_all(&mut rt.stdout(), answers) {
         Ok(()) => explain(path, len, number),
-        Err(e) if number == 0 || number == 10 => {
+        Err(e) if number == 0 || number == SHORT_ROOM => {
             tell::warn(rt, Failure::new(Action::WriteAnswers, path, e));
             Ok(())
         }

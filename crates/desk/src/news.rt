@@ -1,11 +1,10 @@
 // desk new FILE CARDS FAULTS [UPPER LOWER].
-use crate::files::tried;
 use crate::tell::{Action, Complaint, Failure};
 use crate::{Names, argument_or, files, tell};
 use disk::opens::Fields;
 use disk::{opens, texts};
-use std::fs::File;
 use std::io::ErrorKind;
+use store::Refusal;
 
 // The longest argument that is read; a longer one is no number.
 const FIELD: usize = 16;
@@ -54,16 +53,15 @@ pub fn run<'a>(rt: &HostRuntime, names: Names<'a>) -> Result<(), Complaint<'a>> 
     };
     let mut file: [u8; disk::FILE] = disk::room();
     let mut text = [0u8; texts::LINE];
-    let r = opens::fresh(fields, &mut file, &mut text);
-    let said = &text[..r.said];
-    match r.number {
-        0 => make(rt, names, &file[..r.len], said),
-        number => {
+    let made = opens::fresh(fields, &mut file, &mut text);
+    let said = &text[..made.said];
+    match made.file {
+        Ok(len) => make(rt, names, &file[..len], said),
+        Err(refusal) => {
             let _ = files::write_all(&mut rt.stdout(), said);
-            Err(if number == 15 {
-                Complaint::BadBounds
-            } else {
-                Complaint::BadLimits
+            Err(match refusal {
+                Refusal::BadBounds => Complaint::BadBounds,
+                _ => Complaint::BadLimits,
             })
         }
     }

@@ -99,12 +99,10 @@ fn gather(rt: &HostRuntime, room: &mut [u8], sizes: &mut [u32]) -> Option<usize>
 // The report over these files.
 fn report(rt: &HostRuntime, bytes: &[u8], sizes: &[u32]) -> Result<(), Complaint<'static>> {
     let mut out: [u8; runs::TEXT] = disk::room();
-    let wrote = runs::report_files(bytes, sizes, &mut out);
-    if wrote.number != 0 {
-        return Err(Complaint::NoReport);
+    match runs::report_files(bytes, sizes, &mut out) {
+        Ok(len) => Ok(show(rt, &out[..len as usize], b"the files")?),
+        Err(_) => Err(Complaint::NoReport),
     }
-    show(rt, &out[..wrote.count as usize], b"the files")?;
-    Ok(())
 }
 
 // desk report FILE.., so many of them, one to eight

@@ -5,6 +5,7 @@ use std::fmt::Write;
 use std::io::{Error, ErrorKind, Stderr};
 
 // The system's numbers of errors that no kind of error tells from others.
+// Kept: what may not change, the sentences: one kind holds EACCES and EPERM, one EIO, EBADF and others, one ENAMETOOLONG and a name that is no text.
 const EIO: i32 = 5;
 
 const EBADF: i32 = 9;

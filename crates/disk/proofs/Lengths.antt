@@ -1,12 +1,17 @@
--- Lengths of files: the words of the longest and of the shortest store, as numbers (`most_words_lem`, `least_words_lem`); a length that a file can have is that of whole
+-- Lengths of files. A range tells a number as the definitions do (`within`); the words of the longest and of the shortest store, as numbers (`most_words_lem`, `least_words_lem`); a length that a file can have is that of whole
 -- words, and of no more than there is room for (`sized_is`); and every sound store's file has such a length (`sound_sized`).
 use Prim.Native.Nat.{ℕ, ◌-◌, ◌*◌, ◌/◌, ◌%◌, ◌≤◌}
 use mathlib.Core.Path.{◌≡◌, refl}
-use mathlib.Core.Bool.{true}
+use mathlib.Core.Bool.{Bool, true, false}
 use mathlib.Core.List.{List}
 use native.Mathlib.Nat.{mod-add-div}
 use native.Mathlib.Omega.{arith}
 use lib.Dec.{eqb}
+use Rattle.std.proofs.Common.{Some}
+use Rattle.std.proofs.lemmas.Bool.Decides.{nat_tests}
+use Rattle.std.specs.declared.ops.RangeInclusive.{RangeInclusive}
+use Rattle.std.specs.Range.{range_inclusive_start, range_inclusive_end, range_inclusive_exhausted, range_inclusive_contains}
+use Rattle.std.specs.Ordering.{nat_cmp}
 use lib.ListN.{length}
 use borrow.Author.Tests.{eqb-true, eq-eqb}
 use Rattle.rules.proofs.Tests.{both}
@@ -18,6 +23,12 @@ use Rattle.model.proofs.Lists.{between_is}
 use Rattle.model.proofs.Shapes.{shaped, few_cards, few_faults}
 use Rattle.model.proofs.Sound.{sound_is}
 use Rattle.disk.specs.Desk.{least_words, most_words, least_bytes, most_bytes, fault_bytes, sized}
+
+-- a range of the code tells a number as `between` does
+pub within : (lo hi n : ℕ) {r : RangeInclusive ℕ} {b : Bool} → b ≡ range_inclusive_contains (λ (x y : ℕ). Some (nat_cmp x y)) r n → range_inclusive_start r ≡ lo
+    → range_inclusive_end r ≡ hi → range_inclusive_exhausted r ≡ false → b ≡ between lo hi n
+unfolding between
+within lo hi n {r} {b} e l h open_ = rw (e, l, h, open_) (grind (arith, nat_tests))
 
 pub most_words_lem : most_words ≡ 15648
 unfolding most_words length_for faults_at cards_at card_width entries shape_for

@@ -2,7 +2,7 @@
 -- (`sizes_room`); a report takes as much scratch whatever the stores (`need_all`), and what it writes lies within the output (`report_within`).
 use Prim.Native.Nat.{ℕ, ◌+◌, ◌*◌, ◌/◌, ◌≤◌}
 use mathlib.Core.Path.{◌≡◌, refl, ap, ◌∙◌}
-use mathlib.Core.Bool.{Bool, true, false}
+use mathlib.Core.Bool.{Bool, true}
 use mathlib.Core.List.{List, [], ◌∷◌, map}
 use native.Mathlib.Nat.{mod-add-div}
 use native.Mathlib.Omega.{arith}
@@ -15,8 +15,6 @@ use Rattle.rules.proofs.Tests.{by_cases, both}
 use Rattle.model.specs.Lists.{between, all, total}
 use Rattle.model.specs.Shape.{most_cards, most_faults, need}
 use Rattle.model.specs.Report.{most_stores, pieces, run_sound, all_histories, report_text, most_need, need_of, refused_report, report_call}
-use Rattle.model.proofs.Lists.{between_is}
-use Rattle.store.specs.Leaves.{Tells}
 use Rattle.store.specs.declared.answer.Wrote.{Wrote}
 use Rattle.disk.specs.Bytes.{words_of}
 use Rattle.disk.specs.Desk.{most_words, sized}
@@ -57,11 +55,8 @@ pub need_all : (run ns : List ℕ) → need_of run ns ≡ 384
 unfolding need_of
 need_all run ns = need_any (pieces run (take most_stores ns))
 
-pub not_between : (lo hi x : ℕ) → ((lo ≤ x) × (x ≤ hi) → ⊥) → between lo hi x ≡ false
-not_between lo hi x n = by_cases (between lo hi x) (λ e. absurd (n ((between_is lo hi x).0 e))) (λ e. e)
-
-pub refused : {number : ℕ} {out : List ℕ} {r : Wrote} → Tells number 0 r → Reports (refused_report number out []) r out
-refused t = record { answer = t; out_is = refl }
+pub refused : {number : ℕ} {out : List ℕ} → Reports (refused_report number out []) (record { number = number; count = 0 }) out
+refused = record { answer = record { number_is = refl; count_is = refl }; out_is = refl }
 
 -- what a report writes lies within the output
 call_within : (run ns scratch out : List ℕ) → (report_call run ns scratch out).count ≤ length (report_call run ns scratch out).out

@@ -1,11 +1,11 @@
--- What a file holds, as text. The lines are short (`line_most`, `pair_most`), so that all of them have room (`text_most`); a sound store's words are at
+-- What a file holds, as text. The lines are short (`line_most`, `pair_most`), so that all of them have room (`text_most`, `told_most`); a sound store's words are at
 -- least as many as stand before the cells (`sound_long`), and its counts stand in the header (`told_is`); what is told by 0 is told of a file of a store's length (`seen_sized`).
 use Prim.Native.Nat.{ℕ, zero, suc, ◌+◌, ◌/◌, ◌%◌, ◌≤◌}
 use mathlib.Core.Path.{◌≡◌}
 use mathlib.Core.Bool.{true}
 use mathlib.Core.List.{List, [], ◌∷◌, ◌++◌}
 use native.Mathlib.Omega.{arith}
-use lib.Dec.{ltb}
+use lib.Dec.{ltb, eqb}
 use lib.ListN.{length, get_or, length-append}
 use Rattle.rules.proofs.Tests.{by_cases}
 use Rattle.model.specs.Shape.{entries}
@@ -15,7 +15,7 @@ use Rattle.model.specs.Text.{digits, decimal}
 use Rattle.model.proofs.Sound.{sound_is}
 use Rattle.model.proofs.Readings.{held_at_lem, faults_held_at_lem}
 use Rattle.disk.specs.Desk.{sized, new_size, number_line}
-use Rattle.disk.specs.Check.{Seen, told, cards_word, faults_word, buckets_word, bounds_word, of_word, sound_line, pair_line, sound_text, check_size, desk_check}
+use Rattle.disk.specs.Check.{Seen, told, cards_word, faults_word, buckets_word, bounds_word, of_word, sound_line, pair_line, sound_text, check_text, check_size, desk_check}
 
 digits_most : (fuel n : ℕ) (acc : List ℕ) → length (digits fuel n acc) ≤ fuel + length acc
 unfolding digits
@@ -55,6 +55,10 @@ text_most s =
       line_most s.buckets,
       pair_most bounds_word s.upper (32 ∷ []) s.lower,
     )
+
+pub told_most : (s : Seen) → length (check_text s) ≤ check_size
+unfolding check_text
+told_most s = by_cases (eqb s.number 0) (λ e. rw e (text_most s)) (λ e. rw e (omega arith))
 
 pub sound_long : (w : List ℕ) → sound w ≡ true → 288 ≤ length w
 unfolding length_for faults_at cards_at entries

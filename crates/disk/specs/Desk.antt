@@ -1,5 +1,5 @@
 -- What `desk` makes of a file: a job on it, and a fresh one.
-use Rattle.std.specs.Prelude.{ℕ, ◌-◌, ◌*◌, ◌%◌, ◌≡◌, Bool, false, not, ◌&&◌, cond, List, [], ◌∷◌, ◌++◌, eqb, length}
+use Rattle.std.specs.Prelude.{ℕ, ◌-◌, ◌*◌, ◌%◌, ◌≡◌, Bool, false, not, ◌&&◌, cond, List, [], ◌∷◌, ◌++◌, eqb, length, Result, Ok, Err}
 use Rattle.model.specs.Lists.{same, between}
 use Rattle.model.specs.Bounds.{cards_ever}
 use Rattle.model.specs.Shape.{faults_ever}
@@ -7,6 +7,8 @@ use Rattle.model.specs.Layout.{first_upper, first_lower, fault_width, length_for
 use Rattle.model.specs.Calls.{Terms, shape_for, Opened, open_call}
 use Rattle.model.specs.Text.{lf, is_number, value_from, decimal}
 use Rattle.model.specs.Job.{Finished}
+use Rattle.store.specs.Numbers.{number_of}
+use Rattle.store.specs.declared.numbers.Refusal.{Refusal}
 use Rattle.reader.specs.Depot.{blank, whole_text, job_on, Writes}
 use Rattle.disk.specs.Bytes.{words_of, file_of}
 
@@ -90,6 +92,15 @@ desk_new cards faults upper lower = fresh_for (terms_from cards faults upper low
 -- room for its text: any number and LF
 abbrev pub new_size : ℕ
 new_size = 21
+
+-- the number of a file that is made or not, and its bytes, none where it is not made
+abbrev pub made_number : Result ℕ Refusal → ℕ
+made_number (Ok len) = 0
+made_number (Err refusal) = number_of refusal
+
+abbrev pub made_len : Result ℕ Refusal → ℕ
+made_len (Ok len) = len
+made_len (Err refusal) = 0
 
 -- what the program gives and leaves, held to it: the file's bytes at the front of a buffer, read back as the words
 pub record Files (d : Desk) (before : List ℕ) (number len : ℕ) (file' : List ℕ) : Type 0 where

@@ -31,16 +31,11 @@ const FAULT_BYTES: usize = 4 * store::FAULT_WIDTH;
 pub fn sized(n: usize) -> bool
     ensures { result ≡ Desk·sized n }
 {
-    if n < LEAST_BYTES {
-        return false;
-    }
-    if BYTES < n {
-        return false;
-    }
-    (n - LEAST_BYTES) % FAULT_BYTES == 0
+    (LEAST_BYTES..=BYTES).contains(&n) && (n - LEAST_BYTES) % FAULT_BYTES == 0
 }
 
 // Room for so many elements. The `ensures` gives only the length, so that no proof counts the zeros.
+// Kept: a rule of the project, fixed memory: docs/RULES.md, "The stack", has `desk` within its stack; so rooms are arrays, and a length beside them.
 pub fn room<T: Copy + Default, const N: usize>() -> [T; N]
     ensures { N ≡ length result }
 {
@@ -48,6 +43,7 @@ pub fn room<T: Copy + Default, const N: usize>() -> [T; N]
 }
 
 // How a job ended, how long its text is, and whether the file has changed.
+// Kept: the C interface: a job's number comes in `job::Done`, which C reads, and `reader` passes it on.
 #[derive(Clone, Copy)]
 pub struct Outcome {
     pub number: u32,

@@ -1,12 +1,12 @@
 // What a file holds, and that as text.
 ghost use Rattle.std.specs.Prelude.{◌≡◌, true, ◌*◌, ◌≤◌, length};
 ghost use Rattle.model.specs.Layout.{sound};
-ghost use Rattle.reader.specs.Depot.{Writes};
 ghost use Rattle.text.specs.Decimals.{Puts};
 ghost use Rattle.disk.specs.Bytes.{words_of};
 ghost use Rattle.disk.specs.Check.{told, seen_by, desk_check, sound_text, check_text, check_size, told_in, seen_in, number_for, Looks};
 
 use crate::{WORDS, room, sized, texts, words};
+use text::sink::{Sink, Writer, put_text};
 
 // Room for the text.
 pub const TEXT: usize = 256;
@@ -67,27 +67,37 @@ pub fn see(file: &[u8]) -> Option<Seen>
 }
 
 // The five lines of a sound store.
-fn put_sound(out: &mut [u8], s: Seen) -> usize
-    requires { check_size ≤ length out.old }
-    ensures { Puts out.old 0 (sound_text (told_in s)) result out.new }
+fn put_sound<S: Sink>(sink: &mut S, s: Seen)
+    requires { length (sound_text (told_in s)) ≤ S.room sink.old }
+    ensures { S.Takes sink.old (sound_text (told_in s)) sink.new }
 {
-    let a = texts::put_text(out, 0, b"sound\n");
-    let b = texts::put_pair(out, a, b"cards ", s.held, b" of ", s.cards);
-    let c = texts::put_pair(out, b, b"faults ", s.filed, b" of ", s.faults);
-    let d = texts::put_text(out, c, b"buckets ");
-    let e = texts::put_line(out, d, s.buckets);
-    texts::put_pair(out, e, b"bounds ", s.upper, b" ", s.lower)
+    put_text(sink, b"sound\n");
+    texts::put_pair(sink, b"cards ", s.held, b" of ", s.cards);
+    texts::put_pair(sink, b"faults ", s.filed, b" of ", s.faults);
+    put_text(sink, b"buckets ");
+    texts::put_line(sink, s.buckets);
+    texts::put_pair(sink, b"bounds ", s.upper, b" ", s.lower);
 }
 
 // What is told, as text.
-fn put_seen(out: &mut [u8], seen: Option<Seen>) -> usize
-    requires { check_size ≤ length out.old }
-    ensures { Writes (check_text (seen_in seen)) out.old result out.new }
+fn put_seen<S: Sink>(sink: &mut S, seen: Option<Seen>)
+    requires { length (check_text (seen_in seen)) ≤ S.room sink.old }
+    ensures { S.Takes sink.old (check_text (seen_in seen)) sink.new }
 {
     match seen {
-        Some(s) => put_sound(out, s),
-        None => texts::put_text(out, 0, b"not sound\n"),
+        Some(s) => put_sound(sink, s),
+        None => put_text(sink, b"not sound\n"),
     }
+}
+
+// The same at the front of an output; the place behind it.
+fn write_seen(out: &mut [u8], seen: Option<Seen>) -> usize
+    requires { check_size ≤ length out.old }
+    ensures { Puts out.old 0 (check_text (seen_in seen)) result out.new }
+{
+    let mut writer = Writer { out, at: 0 };
+    put_seen(&mut writer, seen);
+    writer.at
 }
 
 // Whether a file is a sound store, and how long its text is.
@@ -105,6 +115,6 @@ pub fn look(file: &[u8], out: &mut [u8]) -> Looked
     let seen = see(file);
     Looked {
         sound: seen.is_some(),
-        len: put_seen(out, seen),
+        len: write_seen(out, seen),
     }
 }

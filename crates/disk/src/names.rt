@@ -2,7 +2,7 @@
 ghost use Rattle.std.specs.Prelude.{◌+◌, ◌≤◌, length};
 ghost use Rattle.disk.specs.Names.{Folder, Named};
 
-use crate::texts;
+use text::sink::{Writer, put_text};
 
 // The bytes of the longest path with its ending zero, and of the longest name beside it.
 pub const PATH: usize = 4096;
@@ -14,8 +14,10 @@ pub fn beside(path: &[u8], ending: &[u8], out: &mut [u8]) -> usize
     requires { length path.now + length ending.now ≤ length out.old }
     ensures { Named path.now ending.now out.old result out.new }
 {
-    let n = texts::put_text(out, 0, path);
-    texts::put_text(out, n, ending)
+    let mut name = Writer { out, at: 0 };
+    put_text(&mut name, path);
+    put_text(&mut name, ending);
+    name.at
 }
 
 // How many bytes of a path lead to its folder: up to and with the last slash, or 0.

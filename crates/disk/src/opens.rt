@@ -2,13 +2,14 @@
 ghost use Rattle.std.specs.Prelude.{◌≡◌, ◌≤◌, length};
 ghost use Rattle.model.specs.Layout.{length_for};
 ghost use Rattle.model.specs.Calls.{shape_for, asked};
-ghost use Rattle.disk.specs.Desk.{most_bytes, argument as Desk·argument, terms_from, new_size, fresh_for, desk_new, Files, Makes};
+ghost use Rattle.disk.specs.Desk.{most_bytes, argument as Desk·argument, terms_from, new_size, fresh_for, desk_new, made_number, made_len, Files, Makes};
 
 use crate::{WORDS, room, texts, words};
-use store::numbers::BAD_LIMITS;
+use store::Refusal;
 use text::numbers;
 
 // An argument's value; what is no number counts as 0, which no limit and no bound may be.
+// Kept: what may not change, the definition `argument` of specs/Desk.antt, by which 0 goes on to Open and is refused there.
 fn argument(field: &[u8]) -> u32
     ensures { result ≡ Desk·argument field.now }
 {
@@ -58,62 +59,53 @@ fn length_for(terms: Terms) -> usize
         + store::FAULT_WIDTH * (terms.faults as usize)
 }
 
-// Open's number, and the bytes of the file, none where the number is not 0.
-#[derive(Clone, Copy)]
-struct Opened {
-    number: u32,
-    len: usize,
-}
-
-fn not_made(number: u32) -> Opened
-    ensures { (result.number ≡ number) × (result.len ≡ 0) }
-{
-    Opened { number, len: 0 }
-}
-
-// A fresh store, as bytes at the front. Limits that ask for more words than the longest store has are out of range.
-fn fresh_for(terms: Terms, file: &mut [u8]) -> Opened
+// A fresh store, as bytes at the front, so many. Limits that ask for more words than the longest store has are out of range.
+fn fresh_for(terms: Terms, file: &mut [u8]) -> Result<usize, Refusal>
     requires { most_bytes ≤ length file.old }
-    ensures { Files (fresh_for (asked terms.cards terms.faults terms.upper terms.lower)) file.old result.number result.len file.new }
+    ensures { Files (fresh_for (asked terms.cards terms.faults terms.upper terms.lower)) file.old (made_number result) (made_len result) file.new }
 {
     let n = length_for(terms);
     if WORDS < n {
-        return not_made(BAD_LIMITS);
+        return Err(Refusal::BadLimits);
     }
     let mut space: [u32; WORDS] = room();
-    let Terms {
-        cards,
-        faults,
-        upper,
-        lower,
-    } = terms;
-    let number = store::open(&mut space[..n], cards, faults, upper, lower);
-    if number != 0 {
-        return not_made(number);
-    }
+    store::open(
+        &mut space[..n],
+        terms.cards,
+        terms.faults,
+        terms.upper,
+        terms.lower,
+    )?;
     let len = 4 * n;
     words::write(&space[..n], &mut file[..len]);
-    Opened { number: 0, len }
+    Ok(len)
 }
 
-// Open's number; the bytes of the file, none where it is not 0; the bytes of the text.
+// Open's number.
+fn number_of(made: Result<usize, Refusal>) -> u32
+    ensures { result ≡ made_number made }
+{
+    match made {
+        Ok(_) => 0,
+        Err(refusal) => refusal.into(),
+    }
+}
+
+// The bytes of the file, or why none is made, and the bytes of the text.
 #[derive(Clone, Copy)]
 pub struct Made {
-    pub number: u32,
-    pub len: usize,
+    pub file: Result<usize, Refusal>,
     pub said: usize,
 }
 
-// A fresh store's file for four arguments, and the number as a line.
+// A fresh store's file for four arguments, and Open's number as a line.
 pub fn fresh(fields: Fields, file: &mut [u8], out: &mut [u8]) -> Made
     requires { (most_bytes ≤ length file.old) × (new_size ≤ length out.old) }
-    ensures { Makes (desk_new fields.entry.cards.now fields.entry.faults.now fields.entry.upper.now fields.entry.lower.now) file.old out.old result.number result.len result.said file.new out.new }
+    ensures { Makes (desk_new fields.entry.cards.now fields.entry.faults.now fields.entry.upper.now fields.entry.lower.now) file.old out.old (made_number result.file) (made_len result.file) result.said file.new out.new }
 {
-    let r = fresh_for(fields.into(), file);
-    let said = texts::put_line(out, 0, r.number);
+    let made = fresh_for(fields.into(), file);
     Made {
-        number: r.number,
-        len: r.len,
-        said,
+        file: made,
+        said: texts::write_line(out, number_of(made)),
     }
 }

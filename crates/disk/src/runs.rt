@@ -1,13 +1,13 @@
 // The report over the files of several stores.
 ghost use Rattle.std.specs.Prelude.{◌≡◌, map, ◌*◌, ◌≤◌, length};
 ghost use Rattle.model.specs.Report.{most_stores};
-ghost use Rattle.store.specs.Leaves.{Tells};
+ghost use Rattle.store.specs.Leaves.{wrote_of};
 ghost use Rattle.disk.specs.Bytes.{words_of};
 ghost use Rattle.disk.specs.Desk.{most_words};
 ghost use Rattle.disk.specs.Report.{words_in, sizes_ok, report_on, desk_report, Reports};
 
 use crate::{WORDS, room, sized, words};
-use store::{Wrote, numbers};
+use store::Refusal;
 
 // The most files, and their words.
 pub const FILES: usize = 8;
@@ -39,18 +39,18 @@ fn lengths_of(sizes: &[u32], lengths: &mut [u32])
     }
 }
 
-// The report over words that are read, with their lengths.
-fn report_on(words: &[u32], lengths: &[u32], out: &mut [u8]) -> Wrote
-    ensures { Reports (report_on words.now lengths.now out.old) result out.new }
+// The report over words that are read, with their lengths: the bytes written.
+fn report_on(words: &[u32], lengths: &[u32], out: &mut [u8]) -> Result<u32, Refusal>
+    ensures { Reports (report_on words.now lengths.now out.old) (wrote_of result) out.new }
 {
     let mut scratch = [0u8; store::NEED];
     report::report(words, lengths, &mut scratch, out)
 }
 
 // The report over files, with room for their words.
-fn report_in(files: &[u8], words: &mut [u32], sizes: &[u32], out: &mut [u8]) -> Wrote
+fn report_in(files: &[u8], words: &mut [u32], sizes: &[u32], out: &mut [u8]) -> Result<u32, Refusal>
     requires { (length files.now ≡ 4 * length words.old) × (length sizes.now ≤ most_stores) }
-    ensures { Reports (report_on (words_of files.now) (map words_in sizes.now) out.old) result out.new }
+    ensures { Reports (report_on (words_of files.now) (map words_in sizes.now) out.old) (wrote_of result) out.new }
 {
     words::read(files, words);
     let mut lengths = [0u32; FILES];
@@ -59,25 +59,16 @@ fn report_in(files: &[u8], words: &mut [u32], sizes: &[u32], out: &mut [u8]) -> 
     report_on(words, &lengths[..n], out)
 }
 
-fn refuse(number: u32) -> Wrote
-    ensures { Tells number 0 result }
+// The report over files that stand one behind another, each as long as the list says, and the bytes written. Refused for no file or more than eight,
+// for sizes that are no stores' or do not add up, for a store that is not sound, and where the output is too short; then nothing is written.
+pub fn report_files(files: &[u8], sizes: &[u32], out: &mut [u8]) -> Result<u32, Refusal>
+    ensures { Reports (desk_report files.now sizes.now out.old) (wrote_of result) out.new }
 {
-    Wrote { number, count: 0 }
-}
-
-// The report over files that stand one behind another, each as long as the list says: 14 for no file or more than eight, 3 for sizes that are
-// no stores' or do not add up and for a store that is not sound, 10 for the output; else the text is written.
-pub fn report_files(files: &[u8], sizes: &[u32], out: &mut [u8]) -> Wrote
-    ensures { Reports (desk_report files.now sizes.now out.old) result out.new }
-{
-    if sizes.len() < 1 {
-        return refuse(numbers::BAD_STORES);
-    }
-    if FILES < sizes.len() {
-        return refuse(numbers::BAD_STORES);
+    if !(1..=FILES).contains(&sizes.len()) {
+        return Err(Refusal::BadStores);
     }
     if !sizes_ok(files.len(), sizes) {
-        return refuse(numbers::NOT_SOUND);
+        return Err(Refusal::NotSound);
     }
     let k = files.len() / 4;
     let mut space: [u32; ALL_WORDS] = room();

@@ -1,40 +1,41 @@
-// Texts and lines of numbers, written into an output that has room for them.
-ghost use Rattle.std.specs.Prelude.{◌+◌, ◌≤◌, length};
+// Lines of numbers, put into any sink that has room for them.
+ghost use Rattle.std.specs.Prelude.{◌≤◌, length};
 ghost use Rattle.text.specs.Decimals.{Puts};
 ghost use Rattle.disk.specs.Desk.{new_size, number_line};
 ghost use Rattle.disk.specs.Check.{pair_line};
 
-use text::{decimals, letters};
+use text::letters;
+use text::sink::{Sink, Writer, put_text};
 
 // Room for a number and LF.
 pub const LINE: usize = 21;
 
-// A text at `at`; the place behind it.
-pub fn put_text(out: &mut [u8], at: usize, text: &[u8]) -> usize
-    requires { at + length text.now ≤ length out.old }
-    ensures { Puts out.old at text.now result out.new }
+// A number and LF.
+pub fn put_line<S: Sink>(sink: &mut S, n: u32)
+    requires { length (number_line n) ≤ S.room sink.old }
+    ensures { S.Takes sink.old (number_line n) sink.new }
 {
-    let end = at + text.len();
-    out[at..end].copy_from_slice(text);
-    end
+    sink.put_decimal(n);
+    sink.put_byte(letters::LF);
 }
 
-// A number and LF at `at`; the place behind them.
-pub fn put_line(out: &mut [u8], at: usize, n: u32) -> usize
-    requires { at + new_size ≤ length out.old }
-    ensures { Puts out.old at (number_line n) result out.new }
+// The same at the front of an output; the place behind it.
+pub fn write_line(out: &mut [u8], n: u32) -> usize
+    requires { new_size ≤ length out.old }
+    ensures { Puts out.old 0 (number_line n) result out.new }
 {
-    let end = decimals::put_decimal(out, at, n);
-    decimals::put_byte(out, end, letters::LF)
+    let mut writer = Writer { out, at: 0 };
+    put_line(&mut writer, n);
+    writer.at
 }
 
 // A word, a number, what stands between, another number, LF.
-pub fn put_pair(out: &mut [u8], at: usize, word: &[u8], a: u32, between: &[u8], b: u32) -> usize
-    requires { at + (length word.now + (length between.now + 41)) ≤ length out.old }
-    ensures { Puts out.old at (pair_line word.now a between.now b) result out.new }
+pub fn put_pair<S: Sink>(sink: &mut S, word: &[u8], a: u32, between: &[u8], b: u32)
+    requires { length (pair_line word.now a between.now b) ≤ S.room sink.old }
+    ensures { S.Takes sink.old (pair_line word.now a between.now b) sink.new }
 {
-    let first = put_text(out, at, word);
-    let second = decimals::put_decimal(out, first, a);
-    let third = put_text(out, second, between);
-    put_line(out, third, b)
+    put_text(sink, word);
+    sink.put_decimal(a);
+    put_text(sink, between);
+    put_line(sink, b);
 }

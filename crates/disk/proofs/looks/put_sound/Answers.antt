@@ -1,14 +1,11 @@
--- `disk::looks::put_sound` meets its contract: the lines, one behind another; each is short enough for the room.
-use mathlib.Core.List.{List, [], ◌∷◌, ◌++◌}
-use Prim.Native.Nat.{ℕ}
-use native.Mathlib.Omega.{arith}
-use Rattle.text.proofs.Putting.{puts_then, puts_length}
+-- `disk::looks::put_sound` meets its contract: the lines, one behind another.
+use Rattle.std.proofs.Common.{ℕ, List, [], ◌∷◌, ◌++◌}
+use Rattle.text.proofs.Sinking.{room_first, room_then, takes_then}
 use Rattle.disk.specs.Desk.{number_line}
 use Rattle.disk.specs.Check.{Seen, cards_word, faults_word, buckets_word, bounds_word, of_word, sound_line, pair_line, sound_text, told_in}
-use Rattle.disk.proofs.Telling.{line_most, pair_most}
 use Rattle.disk.proofs.looks.put_sound.Goals as goal
 
--- the lines behind the first
+-- the lines behind the first, and from each of them on
 abbrev cards : Seen → List ℕ
 cards x = pair_line cards_word x.held of_word x.limit
 
@@ -21,53 +18,59 @@ buckets x = buckets_word ++ number_line x.buckets
 abbrev bounds : Seen → List ℕ
 bounds x = pair_line bounds_word x.upper (32 ∷ []) x.lower
 
-pub put_text-a-requires : goal.put_text-a-requires
-put_text-a-requires c = omega (arith, c.requires)
+abbrev from_buckets : Seen → List ℕ
+from_buckets x = buckets x ++ bounds x
 
-pub put_pair-b-requires : goal.put_pair-b-requires
-put_pair-b-requires c =
-    let x = told_in c.args.s in
-    let p1 = c.put_text-a.ensures in
-    omega (arith, c.requires, p1.end_is, puts_length sound_line p1)
+abbrev from_faults : Seen → List ℕ
+from_faults x = faults x ++ from_buckets x
 
-pub put_pair-c-requires : goal.put_pair-c-requires
-put_pair-c-requires c =
-    let x = told_in c.args.s in
-    let p1 = c.put_text-a.ensures in
-    let p2 = c.put_pair-b.ensures in
-    omega (arith, c.requires, p1.end_is, puts_length sound_line p1, p2.end_is, puts_length (cards x) p2, pair_most cards_word x.held of_word x.limit)
+abbrev from_cards : Seen → List ℕ
+from_cards x = cards x ++ from_faults x
 
-pub put_text-d-requires : goal.put_text-d-requires
-put_text-d-requires c =
-    let x = told_in c.args.s in
-    let p1 = c.put_text-a.ensures in
-    let p2 = c.put_pair-b.ensures in
-    let p3 = c.put_pair-c.ensures in
-    omega (arith, c.requires, p1.end_is, puts_length sound_line p1, p2.end_is, puts_length (cards x) p2, pair_most cards_word x.held of_word x.limit, p3.end_is, puts_length (faults x) p3, pair_most faults_word x.faults of_word x.fault_limit)
-
-pub put_line-e-requires : goal.put_line-e-requires
-put_line-e-requires c =
-    let x = told_in c.args.s in
-    let p1 = c.put_text-a.ensures in
-    let p2 = c.put_pair-b.ensures in
-    let p3 = c.put_pair-c.ensures in
-    let p4 = c.put_text-d.ensures in
-    omega (arith, c.requires, p1.end_is, puts_length sound_line p1, p2.end_is, puts_length (cards x) p2, pair_most cards_word x.held of_word x.limit, p3.end_is, puts_length (faults x) p3, pair_most faults_word x.faults of_word x.fault_limit, p4.end_is, puts_length buckets_word p4)
+pub put_text-requires : goal.put_text-requires
+unfolding sound_text
+put_text-requires g c = let x = told_in c.args.s in room_first sound_line (from_cards x) c.requires
 
 pub put_pair-requires : goal.put_pair-requires
-put_pair-requires c =
+unfolding sound_text
+put_pair-requires g c =
     let x = told_in c.args.s in
-    let p1 = c.put_text-a.ensures in
-    let p2 = c.put_pair-b.ensures in
-    let p3 = c.put_pair-c.ensures in
-    let p4 = c.put_text-d.ensures in
-    let p5 = c.put_line-e.ensures in
-    omega (arith, c.requires, p1.end_is, puts_length sound_line p1, p2.end_is, puts_length (cards x) p2, pair_most cards_word x.held of_word x.limit, p3.end_is, puts_length (faults x) p3, pair_most faults_word x.faults of_word x.fault_limit, p4.end_is, puts_length buckets_word p4, p5.end_is, puts_length (number_line x.buckets) p5, line_most x.buckets)
+    room_first (cards x) (from_faults x) (room_then g.met.S.Sink.laws sound_line (from_cards x) c.put_text.ensures c.requires)
+
+pub put_pair-requires-2 : goal.put_pair-requires-2
+unfolding sound_text
+put_pair-requires-2 g c =
+    let x = told_in c.args.s in
+    room_first (faults x) (from_buckets x)
+    (room_then g.met.S.Sink.laws (cards x) (from_faults x) c.put_pair.ensures (room_then g.met.S.Sink.laws sound_line (from_cards x) c.put_text.ensures c.requires))
+
+pub put_text-requires-2 : goal.put_text-requires-2
+unfolding sound_text
+put_text-requires-2 g c =
+    let x = told_in c.args.s in
+    room_first buckets_word (number_line x.buckets) (room_first (buckets x) (bounds x)
+    (room_then g.met.S.Sink.laws (faults x) (from_buckets x) c.put_pair-2.ensures
+    (room_then g.met.S.Sink.laws (cards x) (from_faults x) c.put_pair.ensures (room_then g.met.S.Sink.laws sound_line (from_cards x) c.put_text.ensures c.requires))))
+
+pub put_line-requires : goal.put_line-requires
+unfolding sound_text
+put_line-requires g c =
+    let x = told_in c.args.s in
+    room_then g.met.S.Sink.laws buckets_word (number_line x.buckets) c.put_text-2.ensures (room_first (buckets x) (bounds x)
+    (room_then g.met.S.Sink.laws (faults x) (from_buckets x) c.put_pair-2.ensures
+    (room_then g.met.S.Sink.laws (cards x) (from_faults x) c.put_pair.ensures (room_then g.met.S.Sink.laws sound_line (from_cards x) c.put_text.ensures c.requires))))
+
+pub put_pair-requires-3 : goal.put_pair-requires-3
+unfolding sound_text
+put_pair-requires-3 g c =
+    let x = told_in c.args.s in
+    room_then g.met.S.Sink.laws (buckets x) (bounds x) (takes_then g.met.S.Sink.laws buckets_word (number_line x.buckets) c.put_text-2.ensures c.put_line.ensures)
+    (room_then g.met.S.Sink.laws (faults x) (from_buckets x) c.put_pair-2.ensures
+    (room_then g.met.S.Sink.laws (cards x) (from_faults x) c.put_pair.ensures (room_then g.met.S.Sink.laws sound_line (from_cards x) c.put_text.ensures c.requires)))
 
 pub returns : goal.returns
 unfolding sound_text
-returns c =
+returns g c =
     let x = told_in c.args.s in
-    let last = buckets x ++ bounds x in
-    puts_then sound_line (cards x ++ (faults x ++ last)) c.put_text-a.ensures (puts_then (cards x) (faults x ++ last) c.put_pair-b.ensures (puts_then (faults x) last c.put_pair-c.ensures
-    (puts_then (buckets x) (bounds x) (puts_then buckets_word (number_line x.buckets) c.put_text-d.ensures c.put_line-e.ensures) c.put_pair.ensures)))
+    takes_then g.met.S.Sink.laws sound_line (from_cards x) c.put_text.ensures (takes_then g.met.S.Sink.laws (cards x) (from_faults x) c.put_pair.ensures (takes_then g.met.S.Sink.laws (faults x) (from_buckets x) c.put_pair-2.ensures
+    (takes_then g.met.S.Sink.laws (buckets x) (bounds x) (takes_then g.met.S.Sink.laws buckets_word (number_line x.buckets) c.put_text-2.ensures c.put_line.ensures) c.put_pair-3.ensures)))
