@@ -6,9 +6,9 @@ mod frames; // frames.rt: the frames of an input
 use frames::{Frame, Frames};
 use job::Tally;
 use script::calls::Terms;
+use script::input;
 use script::serials::Serial;
 use std::io;
-use std::io::Read;
 
 // What the store is opened with.
 const TERMS: Terms = Terms {
@@ -140,8 +140,8 @@ impl<'a> Bench<'a> {
 }
 
 fn main(rt: HostRuntime) -> io::Result<()> {
-    let mut input = Vec::with_capacity(rt.alloc(), 262144)?;
-    rt.reader().take(262144).read_to_end(&mut input)?;
+    let mut input = [0u8; 262144];
+    let n = input::read_full(&rt, &mut input)?;
     let mut words = [0u32; store::MOST_WORDS];
     let mut scratch = [0u8; store::NEED];
     let mut out = [0u8; 65536];
@@ -165,6 +165,6 @@ fn main(rt: HostRuntime) -> io::Result<()> {
             comparisons: 0,
         },
     };
-    bench.run_input(&rt, &input)?;
+    bench.run_input(&rt, &input[..n])?;
     bench.print(&rt)
 }

@@ -1,11 +1,10 @@
 // The proved report behind the interface of host/bench/README.md: words on standard input, a line of sums at the end.
 #![tactic(auto)]
 
-ghost use Rattle.std.specs.Prelude.{◌≤◌};
+ghost use Rattle.std.specs.Prelude.{◌≤◌, length};
 
-use std::alloc::{AllocError, Global};
+use script::input;
 use std::io;
-use std::io::Read;
 use store::Wrote;
 
 // The head of the words: what is done with each group of stores, whether the last text is written, how many turns, how many stores a
@@ -34,12 +33,14 @@ impl Sums {
     }
 }
 
-// The words of an input, four bytes each, the lowest first.
-fn words_of(alloc: Global, input: &[u8]) -> Result<Vec<u32>, AllocError> {
-    input
-        .chunks_exact(4)
-        .map(|b| u32::from_le_bytes([b[0], b[1], b[2], b[3]]))
-        .collect(alloc)
+// Reads whole words of four bytes, the lowest first, until the input or the room ends, and gives how many.
+fn read_words(input: &[u8], words: &mut [u32]) -> usize
+    ensures { result ≤ length words.new }
+{
+    for (word, bytes) in words.iter_mut().zip(input.chunks_exact(4)) {
+        *word = u32::from_le_bytes([bytes[0], bytes[1], bytes[2], bytes[3]]);
+    }
+    words.len().min(input.len() / 4)
 }
 
 // The words of some stores.
@@ -146,11 +147,22 @@ fn run_words(
     print_all(rt, written != 0, bench.sums, bench.out)
 }
 
+fn run_input(
+    rt: &impl Print,
+    input: &[u8],
+    words: &mut [u32],
+    scratch: &mut [u8; store::NEED],
+    out: &mut [u8],
+) -> io::Result<()> {
+    let n = read_words(input, words);
+    run_words(rt, &words[..n], scratch, out)
+}
+
 fn main(rt: HostRuntime) -> io::Result<()> {
-    let mut input = Vec::with_capacity(rt.alloc(), 524288)?;
-    rt.reader().take(524288).read_to_end(&mut input)?;
-    let words = words_of(rt.alloc(), &input)?;
+    let mut input = [0u8; 524288];
+    let mut words = [0u32; 131072];
     let mut scratch = [0u8; store::NEED];
     let mut out = [0u8; 524288];
-    run_words(&rt, &words, &mut scratch, &mut out)
+    let n = input::read_full(&rt, &mut input)?;
+    run_input(&rt, &input[..n], &mut words, &mut scratch, &mut out)
 }

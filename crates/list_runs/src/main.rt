@@ -33,20 +33,20 @@ mod numbered; // numbered.rt: cards by number, and days and codes by steps
 mod reports; // reports.rt: one report, and what it left
 
 use desk::Desk;
+use script::input;
 use script::lines::Line;
 use std::io;
-use std::io::Read;
 
 // A script of up to 65,536 bytes; words for eight stores of the largest size and some more, and output for a line of each code.
 fn main(rt: HostRuntime) -> io::Result<()> {
-    let mut script = Vec::new(rt.alloc());
-    rt.reader().take(65536).read_to_end(&mut script)?;
+    let mut script = [0u8; 65536];
+    let n = input::read_full(&rt, &mut script)?;
     let mut words = [0u32; 125200];
     let mut lengths = [0u32; 16];
     let mut scratch = [0u8; 1000];
     let mut out = [0u8; 300000];
     let mut desk = Desk::new(&mut words, &mut lengths, &mut scratch, &mut out);
-    for piece in script.split_inclusive(|b| *b == b'\n') {
+    for piece in script[..n].split_inclusive(|b| *b == b'\n') {
         desk.turn(&rt, Line::new(piece))?;
     }
     Ok(())

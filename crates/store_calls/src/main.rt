@@ -29,19 +29,19 @@ mod fills; // fills.rt: what scratch and room are filled with before a call
 mod numbered; // numbered.rt: serials by number, and many calls for them
 
 use desk::Desk;
+use script::input;
 use script::lines::Line;
 use std::io;
-use std::io::Read;
 
 // A script of up to 65,536 bytes, and words for the largest store.
 fn main(rt: HostRuntime) -> io::Result<()> {
-    let mut script = Vec::new(rt.alloc());
-    rt.reader().take(65536).read_to_end(&mut script)?;
+    let mut script = [0u8; 65536];
+    let n = input::read_full(&rt, &mut script)?;
     let mut words = [4294967295u32; 15648];
     let mut scratch = [0u8; 1000];
     let mut room = [0u32; 64];
     let mut desk = Desk::new(&mut words, &mut scratch, &mut room);
-    for piece in script.split_inclusive(|b| *b == b'\n') {
+    for piece in script[..n].split_inclusive(|b| *b == b'\n') {
         desk.turn(&rt, Line::new(piece))?;
     }
     Ok(())
