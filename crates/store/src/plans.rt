@@ -117,7 +117,7 @@ fn shrink_scan(w: &[u32], h: Header, b: u32) -> u32
     }
 }
 
-// Enter: 4 for the serial, 6 where a card has it, 8 where no cell is free.
+// Enter: refused by BadSerial, by AlreadyHeld where a card has the serial, by CardsFull where no cell is free.
 pub fn plan_enter(w: &[u32], serial: [u8; 16], len: usize) -> Result<Plan, Answer>
     requires { sound w.now ≡ true }
     ensures { Plans (enter_step (decode w.now) serial len).answer w.now serial len result }
@@ -137,7 +137,8 @@ pub fn plan_enter(w: &[u32], serial: [u8; 16], len: usize) -> Result<Plan, Answe
     Ok(accept(h, spot, scanned, 0))
 }
 
-// File: 4 for the serial, 5 for day and code, 7 where no card has the serial, 9 where no fault cell is free.
+// File: refused by BadSerial, by BadFault for day and code, by NotHeld where no card has the serial, by FaultsFull where no fault cell is free.
+// Kept: the C interface has day and code as two numbers, and so have all above it.
 pub fn plan_file(
     w: &[u32],
     serial: [u8; 16],
@@ -166,7 +167,7 @@ pub fn plan_file(
     Ok(accept(h, spot, 0, n + 1))
 }
 
-// Show and Withdraw of a valid serial: 7 where no card has it, 10 where its pairs do not fit.
+// Show and Withdraw of a valid serial: refused by NotHeld where no card has it, by ShortRoom where its pairs do not fit.
 fn plan_pairs(w: &[u32], serial: [u8; 16], len: usize, room: usize) -> Result<Plan, Answer>
     requires { (sound w.now ≡ true) × (valid_serial serial len ≡ true) }
     ensures { PlansFor (show_step (decode w.now) serial len) room w.now serial len result }
@@ -183,7 +184,7 @@ fn plan_pairs(w: &[u32], serial: [u8; 16], len: usize, room: usize) -> Result<Pl
     Ok(accept(h, spot, 0, n))
 }
 
-// Show, for a room of so many words: 4 for the serial, then 7 and 10.
+// Show, for a room of so many words: BadSerial, then NotHeld and ShortRoom.
 pub fn plan_show(w: &[u32], serial: [u8; 16], len: usize, room: usize) -> Result<Plan, Answer>
     requires { sound w.now ≡ true }
     ensures { PlansFor (show_step (decode w.now) serial len) room w.now serial len result }

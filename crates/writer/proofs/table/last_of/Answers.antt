@@ -31,6 +31,3 @@ loop-i-preserved c =
 pub returns : goal.returns
 unfolding last
 returns c = ap (λ (l : List ℕ). last (c.loop-i.last ∷ l)) (sym (follow_none _ _ _ c.loop-i-test.false)) ∙ c.loop-i.invariant.1
-
-pub bucket_word-i-requires : goal.bucket_word-i-requires
-bucket_word-i-requires c = let p = c.requires in (p.0, p.1)
