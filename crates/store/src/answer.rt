@@ -6,6 +6,7 @@ ghost use Rattle.store.specs.Numbers.{number_of};
 use crate::numbers::Refusal;
 
 // The number, the cards compared, the cards scanned by a split or a contraction, and the faults that the card has.
+// Kept: the C interface reads the number, here and in Wrote, as a u32 that is 0 for what is done.
 #[repr(C)]
 #[derive(Clone, Copy)]
 pub struct Answer {

@@ -49,8 +49,8 @@ pub use reads::header::{Header, header_of};
 pub use reads::layout::{FAULTS_HELD_AT, HELD_AT, TO_CODE, TO_DAY, TO_FIRST, TO_NEXT};
 
 // Sets a fresh store for C cards and F faults with the load bounds U and L, whatever the words held: above U cards a bucket the table
-// grows, below L it contracts. Gives 1 where C or F is out of range, then 15 where U or L is, then 2 where the length is wrong, and in
-// all three every word stays; else 0.
+// grows, below L it contracts. Refused are, in this order, a C or F out of range (BadLimits), a U or L out of range (BadBounds) and a wrong
+// length (BadLength), and in all three every word stays.
 pub fn open(
     words: &mut [u32],
     cards: u32,
@@ -74,8 +74,8 @@ pub fn open(
     Ok(())
 }
 
-// What every call asks first, of any words and scratch: 11 where the scratch is shorter than the words need, then 3 where they are
-// not those of a sound store, else 0. Under 11 the scratch stays, else the bytes that the check takes end zero.
+// What every call asks first, of any words and scratch: ShortScratch where the scratch is shorter than the words need, then NotSound where
+// they are not those of a sound store. Under ShortScratch the scratch stays, else the bytes that the check takes end zero.
 pub fn admit(words: &[u32], scratch: &mut [u8]) -> Result<(), Refusal>
     ensures { Admits words.now scratch.old (number_in result) scratch.new }
 {
@@ -89,6 +89,7 @@ pub fn admit(words: &[u32], scratch: &mut [u8]) -> Result<(), Refusal>
 }
 
 // Enters a card with this serial, at the end of its bucket's chain.
+// Kept: a rule of the project, here and below: a serial goes by value as sixteen bytes, with its length beside it.
 pub fn enter(words: &mut [u32], scratch: &mut [u8], serial: [u8; 16], len: usize) -> Answer
     ensures { Leaves (outcome words.old scratch.old (Act.enter serial len)) result words.new [] scratch.new }
 {

@@ -119,7 +119,7 @@ fn shrink_scan(store: &Sound, b: u32) -> u32
     }
 }
 
-// Enter: 4 for the serial, 6 where a card has it, 8 where no cell is free.
+// Enter: refused by BadSerial, by AlreadyHeld where a card has the serial, by CardsFull where no cell is free.
 pub fn plan_enter(store: &Sound, serial: [u8; 16], len: usize) -> Result<Plan, Answer>
     ensures { Plans (enter_step (decode store.now.view.words.now) serial len).answer store.now.view.words.now serial len result }
 {
@@ -138,7 +138,8 @@ pub fn plan_enter(store: &Sound, serial: [u8; 16], len: usize) -> Result<Plan, A
     Ok(accept(h, spot, scanned, 0))
 }
 
-// File: 4 for the serial, 5 for day and code, 7 where no card has the serial, 9 where no fault cell is free.
+// File: refused by BadSerial, by BadFault for day and code, by NotHeld where no card has the serial, by FaultsFull where no fault cell is free.
+// Kept: the C interface has day and code as two numbers, and so have all above it.
 pub fn plan_file(
     store: &Sound,
     serial: [u8; 16],
@@ -166,7 +167,7 @@ pub fn plan_file(
     Ok(accept(h, spot, 0, n + 1))
 }
 
-// Show and Withdraw of a valid serial: 7 where no card has it, 10 where its pairs do not fit.
+// Show and Withdraw of a valid serial: refused by NotHeld where no card has it, by ShortRoom where its pairs do not fit.
 fn plan_pairs(store: &Sound, serial: [u8; 16], len: usize, room: usize) -> Result<Plan, Answer>
     requires { valid_serial serial len ≡ true }
     ensures { PlansFor (show_step (decode store.now.view.words.now) serial len) room store.now.view.words.now serial len result }
@@ -183,7 +184,7 @@ fn plan_pairs(store: &Sound, serial: [u8; 16], len: usize, room: usize) -> Resul
     Ok(accept(h, spot, 0, n))
 }
 
-// Show, for a room of so many words: 4 for the serial, then 7 and 10.
+// Show, for a room of so many words: refused by BadSerial, then as above.
 pub fn plan_show(store: &Sound, serial: [u8; 16], len: usize, room: usize) -> Result<Plan, Answer>
     ensures { PlansFor (show_step (decode store.now.view.words.now) serial len) room store.now.view.words.now serial len result }
 {

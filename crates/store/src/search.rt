@@ -13,6 +13,7 @@ use reads::{keys, layout, serial};
 
 // What a search gives: the cell of the card, if one has the serial; the place is the card's, from 1, else the chain's length; prev is the
 // cell before the card, 0 for none, or the chain's last if no card has the serial.
+// Kept: an Option in prev is no plainer, since the format links a chain behind cell 0 to its bucket's word, and `link` takes prev as it is.
 #[derive(Clone, Copy)]
 pub struct Found {
     pub cell: Option<u32>,

@@ -13,6 +13,7 @@ use crate::writes;
 use reads::header::Header;
 use reads::cells::View;
 use reads::{header, layout};
+use rules::State;
 
 // Whether the card in cell i goes to the new bucket maxp + p.
 fn moves(view: &View, i: u32) -> bool
@@ -73,12 +74,12 @@ fn set_segment(w: &mut [u32], h: Header, n: u32, v: u32)
 }
 
 // maxp and p, words 3 and 4 of the header.
-fn set_state(w: &mut [u32], maxp: u32, p: u32)
+fn set_state(w: &mut [u32], state: State)
     requires { directory_at ≤ length w.old }
-    ensures { w.new ≡ set (set w.old maxp_at maxp) p_at p }
+    ensures { w.new ≡ set (set w.old maxp_at state.maxp) p_at state.p }
 {
-    w[layout::MAXP_AT] = maxp;
-    w[layout::P_AT] = p;
+    w[layout::MAXP_AT] = state.maxp;
+    w[layout::P_AT] = state.p;
 }
 
 // One bucket more: the chain of bucket p is parted, the new bucket's segment is taken if it is the first there, p grows.
@@ -89,7 +90,11 @@ pub fn split(w: &mut [u32], h: Header)
     let n = h.maxp + h.p;
     part(w, h);
     set_segment(w, h, n, h.segments as u32 + n);
-    set_state(w, rules::high_maxp(h.maxp, h.p), rules::high_p(h.maxp, h.p));
+    let state = State {
+        maxp: h.maxp,
+        p: h.p,
+    };
+    set_state(w, state.grown());
 }
 
 // The last cell of bucket b's chain, 0 for none.
@@ -113,10 +118,13 @@ pub fn join(w: &mut [u32], h: Header)
     requires { MayJoin w.old h }
     ensures { w.new ≡ join_words (shape_in h) w.old (last_of (shape_in h) w.old (low_p h.maxp h.p)) }
 {
-    let maxp = h.maxp;
-    let p = h.p;
-    let b = rules::low_p(maxp, p);
-    let going = maxp + p - 1;
+    let before = State {
+        maxp: h.maxp,
+        p: h.p,
+    };
+    let state = before.shrunk();
+    let b = state.p;
+    let going = h.maxp + h.p - 1;
     let view = View {
         words: w,
         header: h,
@@ -126,7 +134,7 @@ pub fn join(w: &mut [u32], h: Header)
     writes::link(w, h, b, k, first);
     writes::put_bucket(w, h, going, 0);
     set_segment(w, h, going, 0);
-    set_state(w, rules::low_maxp(maxp, p), b);
+    set_state(w, state);
 }
 
 // After an accepted entry, with n cards held: one bucket more if they are more than `upper` a bucket.

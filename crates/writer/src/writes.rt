@@ -73,6 +73,7 @@ pub fn put_cell<P: Part>(w: &mut [u32], h: Header, i: u32, words: &[u32])
 }
 
 // Which cell stands behind cell i of bucket b's chain: the next word of i, or the bucket's word where i is 0.
+// Kept: Options in the place of a 0 for none are no plainer here and below, since that 0 is a word of the format, read and written as it is.
 pub fn link(w: &mut [u32], h: Header, b: u32, i: u32, v: u32)
     requires { Sized w.old h × (b < h.top) × (i ≤ h.cards) }
     ensures { w.new ≡ set w.old (link_at (shape_in h) b i) v }

@@ -9,7 +9,7 @@ use lib.Dec.{lit<}
 use lib.ListN.{length, replicate}
 use mir.Syntax.{w64}
 use mir.Val.{Fits}
-use borrow.Rule.Slice.PartMut.{put_mid, mid_of, mid_len}
+use borrow.Rule.Slice.PartMut.{put_mid, mid_of}
 use Rattle.model.specs.Bounds.{farthest}
 use Rattle.model.specs.Shape.{Shape, top_of, card_width}
 use Rattle.model.specs.Model.{fresh}
@@ -87,11 +87,6 @@ module _ (sh : Shape) (ok : shape_ok sh ≡ true) (a b e v : ℕ) (sa : a ≡ se
       let p = numbers sh ok sa cb fe wv in
       lay b e (e - b) (with_segments q r h k) _ _ g p.0.mid p.0.high refl (cells_length v sh.limit sh.limit p.1 ∙ sym p.0.cells)
 
-pub fill_head-requires : goal.fill_head-requires
-fill_head-requires c =
-    let p = (numbers (shape_by c.args.s) c.requires.0 c.segments_at-segments.ensures c.cards_at-base.ensures c.faults_at-behind.ensures c.card_width-width.ensures).0 in
-    (c.requires.0, mid_len 0 c.segments_at-segments.result c.args.words.now (in_all p.head_in c.requires.1) ∙ sym p.same ∙ c.segments_at-segments.ensures)
-
 pub fill_cells-requires : goal.fill_cells-requires
 fill_cells-requires c =
     let p = (numbers (shape_by c.args.s) c.requires.0 c.segments_at-segments.ensures c.cards_at-base.ensures c.faults_at-behind.ensures c.card_width-width.ensures).0 in
@@ -115,17 +110,8 @@ returns c =
     ∙ ap (λ (n : ℕ). (((header (fresh sh) ++ directory (fresh sh)) ++ segments (fresh sh)) ++ cells_to n c.args.s.cards c.args.s.cards) ++ cells_to fault_width c.args.s.faults c.args.s.faults) c.card_width-width.ensures
     ∙ fresh_words sh
 
-pub slice_bounds-fill_head-count : goal.slice_bounds-fill_head-count
-slice_bounds-fill_head-count c = zero-le
-
-pub slice_bounds-fill_head-start : goal.slice_bounds-fill_head-start
-slice_bounds-fill_head-start c = zero-le
-
 pub slice_bounds-fill_head-end : goal.slice_bounds-fill_head-end
 slice_bounds-fill_head-end c = in_all (numbers (shape_by c.args.s) c.requires.0 c.segments_at-segments.ensures c.cards_at-base.ensures c.faults_at-behind.ensures c.card_width-width.ensures).0.head_in c.requires.1
-
-pub offset_bounds-words-segments : goal.offset_bounds-words-segments
-offset_bounds-words-segments c = (numbers (shape_by c.args.s) c.requires.0 c.segments_at-segments.ensures c.cards_at-base.ensures c.faults_at-behind.ensures c.card_width-width.ensures).0.head_fits
 
 pub slice_bounds-fill-count : goal.slice_bounds-fill-count
 slice_bounds-fill-count c = (numbers (shape_by c.args.s) c.requires.0 c.segments_at-segments.ensures c.cards_at-base.ensures c.faults_at-behind.ensures c.card_width-width.ensures).0.low
@@ -136,9 +122,6 @@ slice_bounds-fill-start c = (numbers (shape_by c.args.s) c.requires.0 c.segments
 pub slice_bounds-fill-end : goal.slice_bounds-fill-end
 slice_bounds-fill-end c = in_all (numbers (shape_by c.args.s) c.requires.0 c.segments_at-segments.ensures c.cards_at-base.ensures c.faults_at-behind.ensures c.card_width-width.ensures).0.table_in (with_head (shape_by c.args.s) c.requires.0 _ _ _ _ c.segments_at-segments.ensures c.cards_at-base.ensures c.faults_at-behind.ensures c.card_width-width.ensures c.args.words.now c.requires.1 _ c.fill_head.ensures).long
 
-pub offset_bounds-words-base : goal.offset_bounds-words-base
-offset_bounds-words-base c = (numbers (shape_by c.args.s) c.requires.0 c.segments_at-segments.ensures c.cards_at-base.ensures c.faults_at-behind.ensures c.card_width-width.ensures).0.table_fits
-
 pub slice_bounds-fill_cells-count : goal.slice_bounds-fill_cells-count
 slice_bounds-fill_cells-count c = (numbers (shape_by c.args.s) c.requires.0 c.segments_at-segments.ensures c.cards_at-base.ensures c.faults_at-behind.ensures c.card_width-width.ensures).0.mid
 
@@ -148,14 +131,8 @@ slice_bounds-fill_cells-start c = (numbers (shape_by c.args.s) c.requires.0 c.se
 pub slice_bounds-fill_cells-end : goal.slice_bounds-fill_cells-end
 slice_bounds-fill_cells-end c = in_all (numbers (shape_by c.args.s) c.requires.0 c.segments_at-segments.ensures c.cards_at-base.ensures c.faults_at-behind.ensures c.card_width-width.ensures).0.high (with_segments (shape_by c.args.s) c.requires.0 _ _ _ _ c.segments_at-segments.ensures c.cards_at-base.ensures c.faults_at-behind.ensures c.card_width-width.ensures c.args.words.now c.requires.1 _ _ c.fill_head.ensures (c.fill.ensures.after (λ y e. e))).long
 
-pub offset_bounds-words-behind : goal.offset_bounds-words-behind
-offset_bounds-words-behind c = (numbers (shape_by c.args.s) c.requires.0 c.segments_at-segments.ensures c.cards_at-base.ensures c.faults_at-behind.ensures c.card_width-width.ensures).0.cells_fit
-
 pub slice_bounds-fill_cells-count-2 : goal.slice_bounds-fill_cells-count-2
 slice_bounds-fill_cells-count-2 c = in_all (numbers (shape_by c.args.s) c.requires.0 c.segments_at-segments.ensures c.cards_at-base.ensures c.faults_at-behind.ensures c.card_width-width.ensures).0.high (with_cards (shape_by c.args.s) c.requires.0 _ _ _ _ c.segments_at-segments.ensures c.cards_at-base.ensures c.faults_at-behind.ensures c.card_width-width.ensures c.args.words.now c.requires.1 _ _ _ c.fill_head.ensures (c.fill.ensures.after (λ y e. e)) c.fill_cells.ensures).long
 
 pub slice_bounds-fill_cells-start-2 : goal.slice_bounds-fill_cells-start-2
 slice_bounds-fill_cells-start-2 c = in_all (numbers (shape_by c.args.s) c.requires.0 c.segments_at-segments.ensures c.cards_at-base.ensures c.faults_at-behind.ensures c.card_width-width.ensures).0.high (with_cards (shape_by c.args.s) c.requires.0 _ _ _ _ c.segments_at-segments.ensures c.cards_at-base.ensures c.faults_at-behind.ensures c.card_width-width.ensures c.args.words.now c.requires.1 _ _ _ c.fill_head.ensures (c.fill.ensures.after (λ y e. e)) c.fill_cells.ensures).long
-
-pub slice_bounds-fill_cells-end-2 : goal.slice_bounds-fill_cells-end-2
-slice_bounds-fill_cells-end-2 c = le_refl _

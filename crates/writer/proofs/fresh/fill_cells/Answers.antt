@@ -31,6 +31,3 @@ returns c =
     let l = c.loop-i in
     let e : l.i ≡ c.args.n = omega arith in
     laid_whole l.invariant (omega (arith, ap (λ (m : ℕ). c.args.width * m) e, c.requires.1)) ∙ ap (cells_to c.args.width c.args.n) e
-
-pub shape_of-part : goal.shape_of-part
-shape_of-part c = c.loop-i.invariant.long

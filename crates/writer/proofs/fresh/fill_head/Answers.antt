@@ -2,8 +2,7 @@
 use mathlib.Core.Path.{◌≡◌, refl, sym, ap, ◌∙◌}
 use Prim.Native.Nat.{ℕ, ◌-◌}
 use native.Mathlib.Omega.{arith}
-use borrow.Rule.Slice.PartMut.{put_mid, mid_len}
-use lib.ListN.{length}
+use borrow.Rule.Slice.PartMut.{put_mid}
 use Rattle.model.specs.Shape.{entries}
 use Rattle.model.specs.Model.{fresh}
 use Rattle.model.specs.Layout.{directory_at, segments_at, header, directory}
@@ -33,18 +32,6 @@ returns c =
 
 pub overflow_cast-segments : goal.overflow_cast-segments
 overflow_cast-segments c = let p = spans (shape_by c.args.s) c.requires.0 in omega (arith, c.segments_at-segments.ensures)
-
-pub slice_bounds-copy_from_slice-end : goal.slice_bounds-copy_from_slice-end
-slice_bounds-copy_from_slice-end c = let p = spans (shape_by c.args.s) c.requires.0 in omega (arith, c.requires.1)
-
-pub copy_from_slice-requires : goal.copy_from_slice-requires
-copy_from_slice-requires c = let p = spans (shape_by c.args.s) c.requires.0 in mid_len 0 directory_at c.args.part.now (omega (arith, p.head, c.requires.1)) ∙ sym (ap length c.fresh_header-row.ensures ∙ header_length _)
-
-pub slice_bounds-put_first-count : goal.slice_bounds-put_first-count
-slice_bounds-put_first-count c = let h = with_header (goal.at.slice_bounds-put_first-count c).After-copy_from_slice in let p = spans (shape_by c.args.s) c.requires.0 in omega (arith, h.long)
-
-pub slice_bounds-put_first-start : goal.slice_bounds-put_first-start
-slice_bounds-put_first-start c = let h = with_header (goal.at.slice_bounds-put_first-start c).After-copy_from_slice in let p = spans (shape_by c.args.s) c.requires.0 in omega (arith, h.long)
 
 pub put_first-requires : goal.put_first-requires
 put_first-requires c = let h = with_header (goal.at.put_first-requires c).After-copy_from_slice in let p = spans (shape_by c.args.s) c.requires.0 in omega (arith, p.head, p.some, mid_laid directory_at (segments_at (shape_by c.args.s)) _ h (omega arith) (ap (λ (m : ℕ). m - directory_at) h.long))

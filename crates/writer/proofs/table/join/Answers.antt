@@ -5,24 +5,24 @@ use Prim.Native.Nat.{◌+◌, ◌-◌, ◌<◌}
 use native.Mathlib.Omega.{arith}
 use Rattle.reads.proofs.CellLaws.{sized_same}
 use Rattle.writer.proofs.TableLaws.{low_below, join_end, join_words_lem}
-use Rattle.writer.proofs.table.join.Goals.{After-low_p-b, Start}
+use Rattle.writer.proofs.table.join.Goals.{After-shrunk-state, Start}
 use Rattle.writer.proofs.table.join.Goals as goal
 
 -- the bucket that the last one was split from is one of the table's
-below : (c : After-low_p-b) → c.low_p-b.result < c.args.h.top
-below c = omega (arith, c.low_p-b.ensures, low_below c.args.h.maxp c.args.h.p c.requires.some, c.requires.room)
+below : (c : After-shrunk-state) → c.shrunk-state.result.p < c.args.h.top
+below c = omega (arith, c.shrunk-state.ensures.p, low_below c.args.h.maxp c.args.h.p c.requires.some, c.requires.room)
 
 -- and so is the one that goes
 gone : (s : Start) → s.args.h.maxp + s.args.h.p - 1 < s.args.h.top
 gone s = omega (arith, s.requires.room, s.requires.some)
 
 pub last_of-k-requires : goal.last_of-k-requires
-last_of-k-requires c = let p = c.requires in (below (goal.at.last_of-k-requires c).After-low_p-b, rw c.low_p-b.ensures p.chain)
+last_of-k-requires c = let p = c.requires in (below (goal.at.last_of-k-requires c).After-shrunk-state, rw c.shrunk-state.ensures.p p.chain)
 
 pub link-requires : goal.link-requires
 link-requires c =
     let p = c.requires in
-    (p.read.sized, below (goal.at.link-requires c).After-low_p-b, join_end p c.low_p-b.ensures c.last_of-k.ensures)
+    (p.read.sized, below (goal.at.link-requires c).After-shrunk-state, join_end p c.shrunk-state.ensures.p c.last_of-k.ensures)
 
 pub put_bucket-requires : goal.put_bucket-requires
 put_bucket-requires c =
@@ -42,10 +42,7 @@ shape_of-w c =
 
 pub returns : goal.returns
 returns c =
-    join_words_lem c.requires c.low_p-b.ensures c.last_of-k.ensures c.bucket_word-first.ensures c.link.ensures c.put_bucket.ensures c.set_segment.ensures c.low_maxp.ensures c.set_state.ensures
-
-pub low_p-b-requires : goal.low_p-b-requires
-low_p-b-requires c = c.requires.some
+    join_words_lem c.requires c.shrunk-state.ensures.p c.last_of-k.ensures c.bucket_word-first.ensures c.link.ensures c.put_bucket.ensures c.set_segment.ensures c.shrunk-state.ensures.maxp c.set_state.ensures
 
 pub overflow_add-going : goal.overflow_add-going
 overflow_add-going c = let p = c.requires in omega (arith, p.room, p.read.sized.room.most)

@@ -3,7 +3,6 @@
 use Prim.Native.Nat.{◌≤◌}
 use native.Mathlib.Omega.{arith}
 use Rattle.reads.proofs.CellLaws.{sized_same}
-use mathlib.Core.Path.{sym, ◌∙◌}
 use Rattle.reads.proofs.EndsLaws.{ends_here}
 use lib.Dec.{lit<}
 use Rattle.model.specs.Layout.{to_day, to_code}
@@ -37,9 +36,6 @@ loop-i-preserved c =
 
 pub loop-i-init : goal.loop-i-init
 loop-i-init c = clear_start c.requires.0 c.requires.1
-
-pub shape_of-w : goal.shape_of-w
-shape_of-w c = c.loop-i.invariant.sized.long ∙ sym c.requires.0.long
 
 pub returns : goal.returns
 returns c = clear_end c.loop-i.invariant c.loop-i-test.false

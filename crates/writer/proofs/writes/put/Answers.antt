@@ -1,6 +1,6 @@
 -- `writes::put` meets its contract: the part ends within the words, and cell i stands whole in it.
 use native.Mathlib.Omega.{arith}
-use Rattle.writer.proofs.WriteLaws.{part_end, cell_room, word_lent}
+use Rattle.writer.proofs.WriteLaws.{part_end, word_lent}
 use Rattle.writer.proofs.writes.put.Goals as goal
 
 pub overflow_mul-end : goal.overflow_mul-end
@@ -13,12 +13,6 @@ overflow_add-end g c =
 
 pub slice_bounds-set_word-end : goal.slice_bounds-set_word-end
 slice_bounds-set_word-end g c = part_end c.requires.0 _ c.start-start.ensures c.width-width.ensures c.limit.ensures
-
-pub set_word-requires : goal.set_word-requires
-set_word-requires g c =
-    let p = c.requires in
-    let width = c.width-width.ensures in
-    (p.1, cell_room p.0 _ c.start-start.ensures width c.limit.ensures _ p.2, omega (arith, p.3, width))
 
 pub returns : goal.returns
 returns g c =
