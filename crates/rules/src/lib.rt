@@ -167,36 +167,3 @@ impl State {
         }
     }
 }
-
-// The state with one bucket more: p grows by 1; if p = maxp, maxp doubles and p is 0.
-#[tactic(auto, unfolding(crate::specs::Table::high_maxp))]
-pub fn high_maxp(maxp: u32, p: u32) -> u32
-    requires { maxp + p < top }
-    ensures { result ≡ high_maxp maxp p }
-{
-    if p + 1 == maxp { 2 * maxp } else { maxp }
-}
-
-#[tactic(auto, unfolding(crate::specs::Table::high_p))]
-pub fn high_p(maxp: u32, p: u32) -> u32
-    requires { maxp + p < top }
-    ensures { result ≡ high_p maxp p }
-{
-    if p + 1 == maxp { 0 } else { p + 1 }
-}
-
-// The state with one bucket less: p falls by 1; if it was 0, maxp halves and p is the new maxp - 1.
-#[tactic(auto, unfolding(crate::specs::Table::low_maxp))]
-pub fn low_maxp(maxp: u32, p: u32) -> u32
-    ensures { result ≡ low_maxp maxp p }
-{
-    if p == 0 { maxp / 2 } else { maxp }
-}
-
-#[tactic(auto, unfolding(crate::specs::Table::low_p))]
-pub fn low_p(maxp: u32, p: u32) -> u32
-    requires { 2 ≤ maxp }
-    ensures { result ≡ low_p maxp p }
-{
-    if p == 0 { maxp / 2 - 1 } else { p - 1 }
-}

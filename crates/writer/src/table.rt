@@ -10,8 +10,8 @@ ghost use Rattle.reads.specs.Chains.{Ends};
 ghost use Rattle.writer.specs.Table.{MaySplit, MayJoin, segment_set, last_from, last_of, Fairly};
 
 use crate::writes;
-use reads::header::Header;
 use reads::cells::View;
+use reads::header::Header;
 use reads::{header, layout};
 use rules::State;
 
