@@ -1,6 +1,6 @@
--- Laws of a fresh store's words. A list is written from the front (`all_filled`, `all_copied`); parts that are lent come
--- back one behind another (`Laid`, `lay`), and so do the cells of a part (`cell_laid`); free cells one behind another are the part that
--- `encode` writes, and all parts together are the encoding of a fresh store (`fresh_words`).
+-- Laws of a fresh store's words. Parts that are lent come back one behind another (`Laid`, `lay`), and so do the cells of a part
+-- (`cell_laid`); free cells one behind another are the part that `encode` writes, and all parts together are the encoding of a fresh store
+-- (`fresh_words`).
 use mathlib.Core.Path.{◌≡◌, refl, sym, ap, ◌∙◌, subst}
 use mathlib.Core.Logic.{⊎_elim}
 use mathlib.Core.Bool.{Bool, true, cond}
@@ -12,7 +12,7 @@ use native.Mathlib.Numerals.{add-one}
 use borrow.Author.Tests.{eq-eqb, ne_eqb, lt-ltb, le-ltb}
 use borrow.Rule.Slice.PartMut.{mid_of, post_of, put_mid, mid_len, same_len_mid}
 use lib.Dec.{ltb}
-use lib.ListN.{length, get_or, set, take, drop, replicate, drop_of_length-le, length-append, length-replicate, replicate-append-replicate}
+use lib.ListN.{length, get_or, set, take, replicate, length-append, length-replicate, replicate-append-replicate}
 use lib.Seq.{take_all, take_at, length-take-le}
 use Rattle.rules.specs.Table.{least}
 use Rattle.rules.proofs.Tests.{eq?}
@@ -24,14 +24,6 @@ use Rattle.model.specs.Layout.{Cell, directory_at, segments_at, shape_ok, bounds
 use Rattle.model.proofs.Shapes.{shaped, entries_some, width_least, width_most, top_most, few_cards, few_faults}
 use Rattle.model.proofs.Rep.{directory_length}
 use Rattle.writer.specs.Fresh.{behind, leading, cells_to}
-
--- a list filled to its end
-pub all_filled : (d : List ℕ) (n : ℕ) → n ≡ length d → replicate n 0 ++ drop n d ≡ replicate (length d) 0
-all_filled d n e = rw (e, drop_of_length-le d {i = length d} (omega arith)) (append-nil _)
-
--- a list copied to its end
-pub all_copied : (s d : List ℕ) (n : ℕ) → length s ≤ n → length d ≤ n → take n s ++ drop n d ≡ s
-all_copied s d n h l = rw (take_all n s h, drop_of_length-le d l) (append-nil s)
 
 -- there are n words, and those before e are x
 pub record Laid (w : List ℕ) (n e : ℕ) (x : List ℕ) : Type 0 where

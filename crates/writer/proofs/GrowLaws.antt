@@ -22,11 +22,9 @@ use Rattle.model.proofs.Split.{rep_grown}
 use Rattle.model.proofs.Join.{rep_shrunk}
 use Rattle.reads.specs.declared.header.Header.{Header}
 use Rattle.reads.specs.Cells.{shape_in, Read}
-use Rattle.reads.specs.Front.{limits_fit, offsets_fit}
 use Rattle.reads.specs.Chains.{Ends}
 use Rattle.writer.specs.Table.{MaySplit, MayJoin, last_of, Fairly}
 use Rattle.reads.proofs.StoredLaws.{bucket_ends, read_store}
-use Rattle.reads.proofs.FrontLaws.{limits_from, offsets_from}
 use Rattle.writer.proofs.TableLaws.{low_below}
 
 pub fairly_rep : {w : List ℕ} → Fairly w → Rep w (decode w)
@@ -36,9 +34,6 @@ pub rep_fairly : {w : List ℕ} {s : Store} → Rep w s → Fairly w
 rep_fairly {w} {s} r =
     let e = rep_decode w s r in
     record { store = ap fair e ∙ is_fair s r.fair; words = ap encode e ∙ sym (rep_words w s r) }
-
-pub fairly_fits : {w : List ℕ} → Fairly w → (limits_fit w ≡ true) × (offsets_fit w ≡ true)
-fairly_fits {w} a = (limits_from w (decode w) (fairly_rep a), offsets_from w (decode w) (fairly_rep a))
 
 module _ {w : List ℕ} {h : Header} (a : Fairly w) (q : Read w h) where
   r : Rep w (decode w)
