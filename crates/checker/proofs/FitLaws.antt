@@ -1,19 +1,15 @@
 -- Laws of the tests on cells, that the functions of `fits` rest on.
 use mathlib.Core.Path.{◌≡◌, ap}
-use mathlib.Core.Bool.{Bool, true, false, cond}
+use mathlib.Core.Bool.{true, false}
 use mathlib.Core.List.{List}
-use Prim.Native.Nat.{ℕ, suc, ◌+◌, ◌-◌, ◌*◌, ◌≤◌, ◌<◌}
+use Prim.Native.Nat.{ℕ, suc, ◌+◌, ◌-◌, ◌≤◌, ◌<◌}
 use native.Mathlib.Omega.{arith}
 use borrow.Author.Tests.{eq-eqb, ne_eqb}
-use lib.Dec.{eqb}
-use lib.ListN.{get_or}
 use Rattle.model.specs.Lists.{between}
 use Rattle.model.specs.Shape.{Shape}
-use Rattle.model.specs.Layout.{to_next, cell_at, card_word, fault_word}
-use Rattle.reads.specs.declared.header.Header.{Header}
-use Rattle.reads.specs.Cells.{shape_in, Sized, width_of, cell_word, same_key}
-use Rattle.checker.specs.Fits.{met_first, free_fits}
-use Rattle.reads.proofs.Rows.{test_from}
+use Rattle.model.specs.Layout.{to_next, card_word}
+use Rattle.reads.specs.Cells.{same_key}
+use Rattle.checker.specs.Fits.{met_first}
 
 -- the search for a card's twin along a chain: what is left from here is what was left from the start
 module _ (sh : Shape) (w : List ℕ) (j i c n : ℕ) (h : n < c) where
@@ -42,13 +38,3 @@ met_start sh w j i c = ap (λ (n : ℕ). met_first n sh w j i) (let z : c - 0 �
 pub met_end : (sh : Shape) (w : List ℕ) (j i c n : ℕ) → c ≤ n → met_first (c - n) sh w j i ≡ false
 unfolding met_first
 met_end sh w j i c n h = let z : c - n ≡ 0 = omega arith in rw z
-
--- a word behind `at`, where a cell begins; a cell is free where all of them but its next word are zero
-unfoldable pub zero_at : List ℕ → ℕ → ℕ → Bool
-zero_at w at k = eqb (get_or w (at + k) 0) 0
-
-pub zero_start : {w : List ℕ} {h : Header} → Sized w h → (faults : Bool) (i : ℕ) {start width : ℕ} → start ≡ cond faults h.behind h.base → width ≡ width_of (shape_in h) faults
-    → test_from (zero_at w (start + width * (i - 1))) 1 width ≡ free_fits (shape_in h) w faults i
-unfolding test_from zero_at free_fits cell_word card_word fault_word cell_at width_of
-zero_start s true i p z = rw (z, p, s.behind)
-zero_start s false i p z = rw (z, p, s.base)

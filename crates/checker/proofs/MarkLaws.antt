@@ -108,10 +108,6 @@ zeros n bytes k h =
 
 -- what cleaning leaves
 module _ (n : ℕ) (bytes : List ℕ) where
-  pub all_cleaned : (i : ℕ) → i ≡ n → replicate i 0 ++ drop i bytes ≡ cleaned n bytes
-  unfolding cleaned
-  all_cleaned i e = ap (λ (m : ℕ). replicate m 0 ++ drop m bytes) e
-
   pub rest_cleaned : drop n (cleaned n bytes) ≡ drop n bytes
   unfolding cleaned
   rest_cleaned = drop_at (replicate n 0) (drop n bytes) n (length-replicate {A = ℕ} n 0)

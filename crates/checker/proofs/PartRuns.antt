@@ -4,7 +4,7 @@
 use mathlib.Core.Path.{◌≡◌, refl, sym, ap, subst, ◌∙◌}
 use mathlib.Core.Bool.{Bool, true, false, ◌&&◌, cond}
 use mathlib.Core.List.{List, map}
-use Prim.Native.Nat.{ℕ, ◌+◌, ◌*◌, ◌≤◌}
+use Prim.Native.Nat.{ℕ, ◌+◌, ◌≤◌, ◌<◌}
 use native.Mathlib.Omega.{arith}
 use lib.Dec.{eqb}
 use lib.ListN.{length, drop, get_or}
@@ -16,10 +16,10 @@ use Rattle.rules.proofs.States.{state_of}
 use Rattle.model.specs.Lists.{from}
 use Rattle.checker.specs.declared.fits.Chain.TheVariants.{Free}
 use Rattle.reads.specs.Cells.{shape_in, Read, limit_of}
-use Rattle.checker.specs.Fits.{cell_fits}
+use Rattle.checker.specs.Fits.{Suits, cell_fits}
 use Rattle.checker.specs.Walk.{walk_of, walks_from, Did, DidAll}
 use Rattle.reads.specs.Front.{limits_fit, offsets_fit}
-use Rattle.checker.specs.Checker.{front_fits, next_in, start_of, base_of, reach_of, chain_count, chains_of, free_of, held_word, part_of, DidPart, checked, DidCheck}
+use Rattle.checker.specs.Checker.{chain_of, front_fits, next_in, start_of, base_of, reach_of, chain_count, chains_of, free_of, held_word, part_of, DidPart, checked, DidCheck}
 use Rattle.checker.proofs.WalkLaws.{Kept}
 use Rattle.checker.proofs.PartLaws.{kept_part, part_marks}
 use Rattle.checker.proofs.FrontMeans.{front_is}
@@ -27,14 +27,6 @@ use Rattle.checker.proofs.FrontMeans.{front_is}
 module _ {w : List ℕ} {h : Header} (r : Read w h) where
   abbrev sh : Shape
   sh = shape_in h
-
-  pub limit_is : (faults : Bool) → cond faults h.faults h.cards ≡ limit_of sh faults
-  unfolding limit_of
-  limit_is faults = refl
-
-  pub base_is : (faults : Bool) → cond faults h.cards 0 ≡ base_of sh faults
-  unfolding base_of
-  base_is faults = refl
 
   pub chains_are : (faults : Bool) → cond faults h.cards (h.maxp + h.p) ≡ chain_count sh w faults
   unfolding chain_count
@@ -46,20 +38,21 @@ module _ {w : List ℕ} {h : Header} (r : Read w h) where
   chains_reach true l = omega arith
   chains_reach false l = omega (arith, l, r.sized.top)
 
-  pub marks_reach : (faults : Bool) → cond faults h.cards 0 + cond faults h.faults h.cards ≤ 8 * need sh
-  marks_reach true = r.sized.room.marks
-  marks_reach false = omega (arith, r.sized.room.marks)
+  pub suits_chain : (faults : Bool) (j : ℕ) → j < reach_of sh faults → Suits h faults (chain_of faults j)
+  unfolding reach_of
+  suits_chain true j l = refl
+  suits_chain false j l = (refl, omega (arith, l, r.sized.top))
 
-  module _ (faults : Bool) {base limit : ℕ} (b : base ≡ cond faults h.cards 0) (l : limit ≡ cond faults h.faults h.cards) where
-    pub did_free : (bytes : List ℕ) {n last : ℕ} {ok : Bool} {left : List ℕ}
-        → Did (walk_of (cell_fits sh w faults Free) (next_in sh w faults) base limit bytes (get_or w (cond faults free_faults_at free_at) 0)) ok n last left → Did (free_of sh w faults bytes) ok n last left
+  module _ (faults : Bool) {base limit : ℕ} (b : base ≡ base_of sh faults) (l : limit ≡ limit_of sh faults) where
+    pub did_free : (bytes : List ℕ) {first n last : ℕ} {ok : Bool} {left : List ℕ} → first ≡ get_or w (cond faults free_faults_at free_at) 0
+        → Did (walk_of (cell_fits sh w faults Free) (next_in sh w faults) base limit bytes first) ok n last left → Did (free_of sh w faults bytes) ok n last left
     unfolding free_of
-    did_free bytes d = rw (← (limit_is faults), ← (base_is faults), ← l, ← b) d
+    did_free bytes f d = rw (← l, ← b, ← f) d
 
     pub did_chains : (bytes : List ℕ) {n total : ℕ} {ok : Bool} {left : List ℕ} → n ≡ cond faults h.cards (h.maxp + h.p)
         → DidAll (walks_from (next_in sh w faults) base limit (map (start_of sh w faults) (from 0 n)) bytes 0) ok total left → DidAll (chains_of sh w faults (chain_count sh w faults) bytes) ok total left
     unfolding chains_of
-    did_chains bytes e d = rw (← (limit_is faults), ← (base_is faults), ← (chains_are faults), ← l, ← b, ← e) d
+    did_chains bytes e d = rw (← (chains_are faults), ← l, ← b, ← e) d
 
 module _ (sh : Shape) (w : List ℕ) (faults : Bool) (bytes : List ℕ) {n last : ℕ} {left : List ℕ} where
   pub part_stops : {ok : Bool} → Did (free_of sh w faults bytes) ok n last left → ok ≡ false → DidPart (part_of sh w faults bytes) false left

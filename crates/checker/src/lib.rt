@@ -9,10 +9,12 @@ ghost use Rattle.model.specs.Calls.{cleaned};
 
 use reads::layout;
 
+mod chained; // chained.rt: what the checker asks of the cards and of the faults
 mod fits; // fits.rt: what a cell has to be by itself
 mod front; // front.rt: the checker on the words before the cells
 mod marks; // marks.rt: which cells were met, a bit each
 mod parts; // parts.rt: the checker on the cards and on the faults
+mod walked; // walked.rt: what a walk of a chain met
 mod walks; // walks.rt: walks of chains over marks
 
 pub use marks::clear;

@@ -19,7 +19,7 @@ pub fn mark(scratch: &mut [u8], k: usize)
 {
     let mask: u8 = 1 << (k % 8);
     let at = k / 8;
-    scratch[at] = scratch[at] | mask;
+    scratch[at] |= mask;
 }
 
 // The first n bytes are zero, and the rest is as it was.
@@ -27,9 +27,5 @@ pub fn clear(scratch: &mut [u8], n: usize)
     requires { n ≤ length scratch.old }
     ensures { scratch.new ≡ cleaned n scratch.old }
 {
-    let mut i = 0;
-    while i < n {
-        scratch[i] = 0;
-        i += 1;
-    }
+    scratch[..n].fill(0);
 }

@@ -1,5 +1,5 @@
 -- Laws of a header that the words are sized by (`sized_from`): a word of a cell is there (`card_in`, `cell_in_lem`) and, read in the words from
--- its part on, is the one asked for (`card_is`, `fault_is`). Of the words only their length counts (`sized_same`).
+-- its part on, is the one asked for (`cell_is`). Of the words only their length counts (`sized_same`).
 use mathlib.Core.Path.{◌≡◌, ap, ◌∙◌, sym}
 use mathlib.Core.Bool.{Bool, true, false, cond}
 use mathlib.Core.List.{List}
@@ -13,7 +13,7 @@ use Rattle.model.specs.Layout.{directory_at, fault_width, segments_at, cards_at,
 use Rattle.model.proofs.Places.{cell_at_below}
 use Rattle.model.proofs.Shapes.{top_most, entries_some, width_least, width_most, shaped, few_cards, few_faults}
 use Rattle.reads.specs.declared.header.Header.{Header}
-use Rattle.reads.specs.Cells.{shape_in, Room, Sized, width_of, limit_of}
+use Rattle.reads.specs.Cells.{shape_in, Room, Sized, cell_word, width_of, limit_of}
 use lib.Seq.{get_or-take, get_or-drop}
 
 -- what a header has in numbers, where the words are so long
@@ -51,6 +51,12 @@ module _ (w : List ℕ) (h : Header) (ok : shape_ok (shape_in h) ≡ true) (long
 part_word : (w : List ℕ) (a b k : ℕ) → a + b + k < length w → get_or (take (length w - a) (drop a w)) (b + k) 0 ≡ get_or w (a + b + k) 0
 part_word w a b k l = get_or-take (length w - a) (drop a w) (b + k) 0 (omega arith) ∙ get_or-drop a w (b + k) 0 ∙ ap (λ (n : ℕ). get_or w n 0) (omega arith)
 
+-- the width of a part
+pub width_some : (sh : Shape) (faults : Bool) → 0 < width_of sh faults
+unfolding width_of
+width_some sh true = omega arith
+width_some sh false = omega (arith, width_least sh)
+
 module _ {w : List ℕ} {h : Header} (s : Sized w h) where
   -- a word of the header is there, in any words as long
   pub head_in_lem : (k : ℕ) → k < directory_at → {n : ℕ} → n ≡ length w → k < n
@@ -70,11 +76,6 @@ module _ {w : List ℕ} {h : Header} (s : Sized w h) where
       let e : h.width * (i - 1) ≡ card_width (shape_in h) * (i - 1) = ap (λ (n : ℕ). n * (i - 1)) s.width in
       omega (arith, s.long, s.base, cell_at_below (cards_at (shape_in h)) (card_width (shape_in h)) h.cards i k a b (omega (arith, s.width)))
 
-  pub card_is : (i k : ℕ) → 1 ≤ i → i ≤ h.cards → k < h.width
-      → get_or (take (length w - h.base) (drop h.base w)) (h.width * (i - 1) + k) 0 ≡ card_word (shape_in h) w i k
-  unfolding card_word cell_at
-  card_is i k a b l = part_word w h.base (h.width * (i - 1)) k (card_in i k a b l) ∙ (λ t. get_or w (s.base t + s.width t * (i - 1) + k) 0)
-
   -- the same word, read in the words from that of the first cell on
   pub end_is : (i k : ℕ) → 1 ≤ i → i ≤ h.cards → k < h.width
       → get_or (take (length w - (h.base + k)) (drop (h.base + k) w)) (h.width * (i - 1)) 0 ≡ card_word (shape_in h) w i k
@@ -86,16 +87,24 @@ module _ {w : List ℕ} {h : Header} (s : Sized w h) where
   fault_in_lem : (i k : ℕ) → 1 ≤ i → i ≤ h.faults → k < fault_width → h.behind + fault_width * (i - 1) + k < length w
   fault_in_lem i k a b l = let r = s.room in omega arith
 
-  pub fault_is : (i k : ℕ) → 1 ≤ i → i ≤ h.faults → k < fault_width
-      → get_or (take (length w - h.behind) (drop h.behind w)) (fault_width * (i - 1) + k) 0 ≡ fault_word (shape_in h) w i k
-  unfolding fault_word cell_at
-  fault_is i k a b l = part_word w h.behind (fault_width * (i - 1)) k (fault_in_lem i k a b l) ∙ (λ t. get_or w (s.behind t + fault_width * (i - 1) + k) 0)
-
   pub cell_in_lem : (faults : Bool) (i k : ℕ) {start width : ℕ} → start ≡ cond faults h.behind h.base → width ≡ width_of (shape_in h) faults
-      → 1 ≤ i → i ≤ limit_of (shape_in h) faults → k < width → start + width * (i - 1) + k < length w
+      → 1 ≤ i → i ≤ limit_of (shape_in h) faults → k < width_of (shape_in h) faults → start + width * (i - 1) + k < length w
   unfolding limit_of width_of
-  cell_in_lem true i k p z a b l = rw (p, z) (fault_in_lem i k a b (omega (arith, z)))
-  cell_in_lem false i k p z a b l = let y = z ∙ sym s.width in rw (p, y) (card_in i k a b (omega (arith, y)))
+  cell_in_lem true i k p z a b l = rw (p, z) (fault_in_lem i k a b l)
+  cell_in_lem false i k p z a b l = let y = z ∙ sym s.width in rw (p, y) (card_in i k a b (omega (arith, s.width)))
+
+  -- the words of a cell end within the words
+  pub cell_whole : (faults : Bool) (i : ℕ) {start width : ℕ} → start ≡ cond faults h.behind h.base → width ≡ width_of (shape_in h) faults
+      → 1 ≤ i → i ≤ limit_of (shape_in h) faults → start + width * (i - 1) + width ≤ length w
+  cell_whole faults i {start} {width} p z a b =
+      let y : 0 < width_of (shape_in h) faults = width_some (shape_in h) faults in
+      omega (arith, z, cell_in_lem faults i (width_of (shape_in h) faults - 1) p z a b (omega arith))
+
+  pub cell_is : (faults : Bool) (i k : ℕ) {start width : ℕ} → start ≡ cond faults h.behind h.base → width ≡ width_of (shape_in h) faults
+      → start + width * (i - 1) + k < length w → get_or (take (length w - start) (drop start w)) (width * (i - 1) + k) 0 ≡ cell_word (shape_in h) w faults i k
+  unfolding cell_word width_of card_word fault_word cell_at
+  cell_is true i k {start} {width} p z l = part_word w start (width * (i - 1)) k l ∙ (λ t. get_or w ((p ∙ s.behind) t + z t * (i - 1) + k) 0)
+  cell_is false i k {start} {width} p z l = part_word w start (width * (i - 1)) k l ∙ (λ t. get_or w ((p ∙ s.base) t + z t * (i - 1) + k) 0)
 
   -- how many segments the most buckets take
   pub segment_count : h.top / segment_size ≡ entries (shape_in h)
@@ -107,14 +116,3 @@ module _ {w : List ℕ} {h : Header} (s : Sized w h) where
 
   pub sized_set : {u : List ℕ} (i v : ℕ) → u ≡ set w i v → Sized u h
   sized_set i v e = sized_same (ap length e ∙ length-set w i v)
-
--- the width of a part
-pub width_some : (sh : Shape) (faults : Bool) → 0 < width_of sh faults
-unfolding width_of
-width_some sh true = omega arith
-width_some sh false = omega (arith, width_least sh)
-
-pub width_few : (sh : Shape) (faults : Bool) → width_of sh faults ≤ most_width
-unfolding width_of
-width_few sh true = omega arith
-width_few sh false = omega (arith, width_most sh)

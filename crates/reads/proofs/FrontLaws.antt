@@ -110,3 +110,7 @@ offsets_from w s r =
     (all_of (eq-eqb (get_or w faults_offset_at 0) (faults_at sh) (rep_head r faults_offset_at (lit< tt)))
     (all_of (eq-eqb (get_or w whole_length_at 0) (length_for sh) (rep_head r whole_length_at (lit< tt)))
     (all_of (eq-eqb (get_or w bounds_at 0) (bounds_word sh) (rep_head r bounds_at (lit< tt))) (eq-eqb (get_or w rule_at 0) (rule_word sh) (rep_head r rule_at (lit< tt)))))))))
+
+-- the words that a header is read from are there
+pub head_there : (w : List ℕ) → limits_fit w ≡ true → directory_at ≤ length w
+head_there w e = (fit_is w e).head

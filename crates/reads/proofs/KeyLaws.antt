@@ -1,15 +1,14 @@
 -- A key compared word by word: one word that differs decides (`key_differs`), and where all four agree the length does (`key_agrees`).
 -- Two cards are compared as one of them with the other's key (`key_same`, `same_differs`).
 use mathlib.Core.Path.{◌≡◌, refl, sym, ap, ◌∙◌}
-use mathlib.Core.Logic.{⊎_elim}
 use mathlib.Core.Bool.{Bool, false, ◌&&◌}
 use mathlib.Core.List.{List}
-use Prim.Native.Nat.{ℕ, zero, suc, ◌+◌, ◌-◌, ◌≤◌, ◌<◌}
+use Prim.Native.Nat.{ℕ, zero, suc, ◌+◌, ◌≤◌, ◌<◌}
 use native.Mathlib.Omega.{arith}
-use borrow.Author.Tests.{eqb-true, eq-eqb}
+use borrow.Author.Tests.{eqb-true, eqb-false, eq-eqb}
 use lib.Dec.{eqb}
 use lib.ListN.{get_or}
-use Rattle.rules.proofs.Tests.{by_cases, both, and_true, eq?}
+use Rattle.rules.proofs.Tests.{by_cases, both, and_true}
 use Rattle.model.specs.Shape.{Shape}
 use Rattle.model.specs.Layout.{to_length, to_serial, serial_words, card_word}
 use Rattle.model.proofs.Lists.{all_from, from_all}
@@ -21,7 +20,7 @@ pub record KeyFrom (sh : Shape) (w : List ℕ) (i : ℕ) (key : List ℕ) (k : �
   pub agree : (m : ℕ) → k ≤ m → m < serial_words → card_word sh w i (m + to_serial) ≡ get_or key m 0
 
 module _ (sh : Shape) (w : List ℕ) (i : ℕ) (key : List ℕ) where
-  abbrev word_agrees : ℕ → Bool
+  abbrev pub word_agrees : ℕ → Bool
   word_agrees k = eqb (card_word sh w i (k + to_serial)) (get_or key k 0)
 
   pub key_differs : (len k : ℕ) → k < serial_words → (card_word sh w i (k + to_serial) ≡ get_or key k 0 → ⊥) → has_key sh w i len key ≡ false
@@ -31,23 +30,17 @@ module _ (sh : Shape) (w : List ℕ) (i : ℕ) (key : List ℕ) where
       (λ e. absurd (d (eqb-true _ _ (all_from word_agrees 0 serial_words (both (eqb (card_word sh w i to_length) len) _ e).1 k (omega arith) l))))
       (λ e. e)
 
-  -- none is left to compare; one more agrees; all agree
-  pub from_end : KeyFrom sh w i key serial_words
-  from_end = record { agree = λ m l h. absurd (omega arith) }
-
-  pub from_word : (k : ℕ) → 0 < k → card_word sh w i (k - 1 + to_serial) ≡ get_or key (k - 1) 0 → KeyFrom sh w i key k → KeyFrom sh w i key (k - 1)
-  from_word k p e q = record {
-    agree = λ m l h. ⊎_elim
-        (λ (z : m ≡ k - 1). rw z e)
-        (λ (z : m ≡ k - 1 → ⊥). q.agree m (omega (arith, z)) h)
-        (eq? m (k - 1));
-  }
+  pub key_unlike : (len : ℕ) → (k : ℕ) × (k < serial_words) × (word_agrees k ≡ false) → has_key sh w i len key ≡ false
+  key_unlike len u = key_differs len u.0 u.1 (eqb-false _ _ u.2)
 
   pub key_agrees : (len k : ℕ) → k ≤ 0 → KeyFrom sh w i key k → has_key sh w i len key ≡ eqb (card_word sh w i to_length) len
   unfolding has_key
   key_agrees len k z q =
       let t = from_all word_agrees 0 serial_words (λ m l h. eq-eqb _ _ (q.agree m (omega arith) h)) in
       ap (λ (b : Bool). eqb (card_word sh w i to_length) len && b) t ∙ and_true (eqb (card_word sh w i to_length) len)
+
+  pub key_alike : (len : ℕ) → ((k : ℕ) → k < serial_words → card_word sh w i (k + to_serial) ≡ get_or key k 0) → has_key sh w i len key ≡ eqb (card_word sh w i to_length) len
+  key_alike len e = key_agrees len 0 (omega arith) (record { agree = λ m l h. e m h })
 
 module _ (sh : Shape) (w : List ℕ) (i j : ℕ) where
   pub key_same : has_key sh w i (card_word sh w j to_length) (key_at sh w j) ≡ same_key sh w i j

@@ -1,41 +1,44 @@
--- A serial that travels, by its two parts: with a length within 1 to 16 it is valid where all bytes up to the length are allowed and all
--- behind it are zero (`valid_parts`); any other length is not valid (`short_invalid`, `long_invalid`). And the bytes that are allowed, as a
+-- A serial that travels, by its parts (`valid_is`): its length is within 1 to 16, all bytes up to the length are allowed, and all behind it
+-- are zero. And the bytes that are allowed, as a
 -- table of bits from the hyphen on: each byte was looked at (`table_tells`).
 use mathlib.Core.Path.{◌≡◌, refl, sym, ap, ◌∙◌}
-use mathlib.Core.Bool.{Bool, true, false, not, cond, ◌&&◌}
-use mathlib.Core.List.{List}
-use Prim.Native.Nat.{ℕ, zero, suc, ◌-◌, ◌/◌, ◌%◌, ◌^◌, ◌≤◌, ◌<◌, ◌+◌, ◌*◌}
+use mathlib.Core.Bool.{Bool, true, false, not, cond, ◌&&◌, ◌||◌}
+use mathlib.Core.List.{List, [], ◌∷◌}
+use Rattle.std.specs.Int.{w32, from_be_bytes, to_be_bytes}
+use Prim.Native.Nat.{ℕ, suc, ◌-◌, ◌/◌, ◌%◌, ◌^◌, ◌≤◌, ◌<◌, ◌+◌, ◌*◌}
 use native.Mathlib.Omega.{arith}
 use lib.Dec.{eqb}
-use lib.ListN.{length, take, drop}
+use lib.ListN.{length, take, drop, get_or, length-drop}
 use lib.Seq.{length-take-le, take_all}
-use borrow.Author.Tests.{eq-eqb, ne_eqb, eqb-true}
+use borrow.Author.Tests.{eq-eqb, eqb-true}
 use Rattle.model.specs.Lists.{between, all}
 use Rattle.model.specs.Serial.{most_bytes, allowed, serial_ok, valid_serial}
 use Rattle.model.proofs.Lists.{between_is, all_from}
-use Rattle.reads.proofs.Rows.{and_rest, and_fails}
-use Rattle.rules.proofs.Tests.{both}
-use Rattle.model.specs.Layout.{packed}
+use Rattle.reads.proofs.Rows.{and_rest, and_fails, or_rest}
+use Rattle.rules.proofs.Tests.{by_cases, both}
+use Rattle.model.specs.Layout.{packed, bytes_of}
 use Rattle.model.proofs.Serials.{serial_is, padded}
 use Rattle.model.proofs.Valid.{valid_serial_lem}
 
-pub valid_parts : (s : List ℕ) (n : ℕ) → length s ≡ most_bytes → 1 ≤ n → n ≤ most_bytes → valid_serial s n ≡ (all allowed (take n s) && all (eqb 0) (drop n s))
-unfolding valid_serial serial_ok
-valid_parts s n l a b =
-    let t : length (take n s) ≡ n = length-take-le n s (omega arith) in
-    let r : between 1 most_bytes (length (take n s)) ≡ true = (between_is 1 most_bytes (length (take n s))).1 (omega arith, omega arith) in
-    and_rest _ (eq-eqb (length (take n s)) n t) ∙ ap (λ (x : Bool). x && all (eqb 0) (drop n s)) (and_rest (all allowed (take n s)) r)
+module _ (s : List ℕ) (n : ℕ) (l : length s ≡ most_bytes) where
+  valid_parts : 1 ≤ n → n ≤ most_bytes → valid_serial s n ≡ (all allowed (take n s) && all (eqb 0) (drop n s))
+  unfolding valid_serial serial_ok
+  valid_parts a b =
+      let t : length (take n s) ≡ n = length-take-le n s (omega arith) in
+      let r : between 1 most_bytes (length (take n s)) ≡ true = (between_is 1 most_bytes (length (take n s))).1 (omega arith, omega arith) in
+      and_rest _ (eq-eqb (length (take n s)) n t) ∙ ap (λ (x : Bool). x && all (eqb 0) (drop n s)) (and_rest (all allowed (take n s)) r)
 
-pub short_invalid : (s : List ℕ) (n : ℕ) → n < 1 → valid_serial s n ≡ false
-unfolding valid_serial serial_ok between
-short_invalid s zero h = refl
-short_invalid s (suc n) h = absurd (omega arith)
+  behind_all : take (most_bytes - n) (drop n s) ≡ drop n s
+  behind_all = take_all (most_bytes - n) (drop n s) (omega (arith, length-drop n s))
 
-pub long_invalid : (s : List ℕ) (n : ℕ) → length s ≡ most_bytes → most_bytes < n → valid_serial s n ≡ false
-unfolding valid_serial
-long_invalid s n l h =
-    let t : length (take n s) ≡ most_bytes = ap length (take_all n s (omega arith)) ∙ l in
-    and_fails _ (ne_eqb (length (take n s)) n (omega arith))
+  pub valid_is : valid_serial s n ≡ ((between 1 most_bytes n && all allowed (take n s)) && all (eqb 0) (take (most_bytes - n) (drop n s)))
+  unfolding valid_serial serial_ok
+  valid_is =
+      by_cases (between 1 most_bytes n)
+      (λ t. let r = (between_is 1 most_bytes n).0 t in rw (behind_all, t) (valid_parts r.0 r.1))
+      (λ t. rw t (by_cases (eqb (length (take n s)) n)
+      (λ e. and_rest _ e ∙ and_fails _ (and_fails _ (ap (between 1 most_bytes) (eqb-true (length (take n s)) n e) ∙ t)))
+      (λ e. and_fails _ e)))
 
 -- equal truths
 alike : Bool → Bool → Bool
@@ -64,14 +67,12 @@ table_tells b l h =
     are_alike (eqb (table / 2 ^ (b - hyphen) % 2) 1) (allowed b)
     (all_from (λ (x : ℕ). alike (eqb (table / 2 ^ (x - hyphen) % 2) 1) (allowed x)) hyphen (suc last_letter - hyphen) refl b l (omega arith))
 
-pub early_not_allowed : (b : ℕ) → b < hyphen → allowed b ≡ false
-unfolding allowed between alike
-early_not_allowed b h = are_alike (allowed b) false (all_from (λ (x : ℕ). alike (allowed x) false) 0 hyphen refl b (omega arith) h)
-
 -- bytes are below 2 ^ 8
-pub late_not_allowed : (b : ℕ) → last_letter < b → b < 2 ^ 8 → allowed b ≡ false
+pub outside_not_allowed : (b : ℕ) → b < 2 ^ 8 → between hyphen last_letter b ≡ false → allowed b ≡ false
 unfolding allowed between alike
-late_not_allowed b l h = are_alike (allowed b) false (all_from (λ (x : ℕ). alike (allowed x) false) (suc last_letter) (2 ^ 8 - suc last_letter) refl b l (omega arith))
+outside_not_allowed b h t =
+    let f : ℕ → Bool = λ x. between hyphen last_letter x || alike (allowed x) false in
+    are_alike (allowed b) false (sym (or_rest _ t) ∙ all_from f 0 (2 ^ 8) refl b (omega arith) (omega arith))
 
 -- a serial as it is sent
 module _ (bytes : List ℕ) (n : ℕ) (v : valid_serial bytes n ≡ true) where
@@ -89,3 +90,12 @@ module _ (bytes : List ℕ) (n : ℕ) (v : valid_serial bytes n ≡ true) where
       let z = (both (serial_ok (take n bytes)) _ (both (eqb (length (take n bytes)) n) _ v).1).1 in
       let p = padded n bytes z in
       λ i. ((p k i * 256 + p (k + 1) i) * 256 + p (k + 2) i) * 256 + p (k + 3) i
+
+-- four bytes as a word and a word as four bytes, in std's words
+pub four_packed : (s : List ℕ) (k : ℕ) → from_be_bytes w32 (get_or s k 0 ∷ get_or s (k + 1) 0 ∷ get_or s (k + 2) 0 ∷ get_or s (k + 3) 0 ∷ []) ≡ packed s k
+unfolding packed
+four_packed s k = omega arith
+
+pub four_unpacked : (x : ℕ) → x < 2 ^ 32 → to_be_bytes w32 x ≡ bytes_of x
+unfolding bytes_of
+four_unpacked x h = let e : x / 2 ^ 24 % 256 ≡ x / 2 ^ 24 = omega arith in rw e

@@ -49,12 +49,9 @@ pub record Read (w : List ℕ) (h : Header) : Type 0 where
   pub maxp : get_or w maxp_at 0 ≡ h.maxp
   pub state : get_or w p_at 0 ≡ h.p
 
--- how many bytes of a serial a word holds, and four bytes as a word, the first highest
+-- how many bytes of a serial a word holds
 abbrev pub word_bytes : ℕ
 word_bytes = 4
-
-abbrev pub four_bytes : ℕ → ℕ → ℕ → ℕ → ℕ
-four_bytes a b c d = ((a * 256 + b) * 256 + c) * 256 + d
 
 -- the four words of sixteen bytes, and the sixteen bytes of four words
 abbrev pub packed_all : List ℕ → List ℕ

@@ -38,13 +38,7 @@ pub fn wide_word(w: &[u32], at: usize) -> usize
     requires { at < length w.now }
     ensures { result ≡ get_or w.now at 0 }
 {
-    wide(w[at])
-}
-
-fn wide(x: u32) -> usize
-    ensures { result ≡ x }
-{
-    x as usize
+    w[at] as usize
 }
 
 // The shape that words tell.
@@ -64,6 +58,7 @@ pub fn shape_of(w: &[u32]) -> Shape
 }
 
 // The header, once the shape, the length and the offsets are right: the parts begin where its own words say.
+#[tactic(auto, using(crate::proofs::FrontLaws::head_there))]
 pub fn read(w: &[u32]) -> Header
     requires { (limits_fit w.now ≡ true) × (offsets_fit w.now ≡ true) }
     ensures { Read w.now result }

@@ -22,6 +22,7 @@ pub const LIMIT_AT: usize = 1;
 pub const FAULT_LIMIT_AT: usize = 2;
 
 // Format 1 and its load bounds, for which it has no word: above FIRST_UPPER cards a bucket the table grows, below FIRST_LOWER it contracts.
+// Kept: an enum of formats is no plainer, since word 0 of any words is read into `Shape` before it is tested, and may hold any number.
 const FIRST_FORMAT: u32 = 1;
 
 const FIRST_UPPER: u32 = 4;
@@ -126,6 +127,7 @@ pub struct Shape {
 }
 
 // The shape that Open makes.
+#[tactic(auto, unfolding(model::specs::Calls::shape_for))]
 pub fn shape_for(cards: u32, faults: u32, upper: u32, lower: u32) -> Shape
     ensures { shape_by result ≡ shape_for (asked cards faults upper lower) }
 {
@@ -160,38 +162,31 @@ pub fn lower_by(format: u32, word: u32) -> u32
 }
 
 // A number from lo to hi, as a limit is tested.
+#[tactic(auto, unfolding(model::specs::Lists::between))]
 pub fn within(lo: u32, hi: u32, x: u32) -> bool
     ensures { result ≡ between lo hi x }
 {
-    if lo <= x { x <= hi } else { false }
+    (lo..=hi).contains(&x)
 }
 
 // Format 2 has any bounds, format 1 has 4 and 2.
+#[tactic(auto, unfolding(model::specs::Layout::format_ok))]
 fn format_ok(s: Shape) -> bool
     ensures { result ≡ format_ok (shape_by s) }
 {
-    let format = s.format;
-    let upper = s.upper;
-    let lower = s.lower;
-    if format == SECOND_FORMAT {
-        return true;
-    }
-    if format != FIRST_FORMAT {
-        return false;
-    }
-    if upper != FIRST_UPPER {
-        return false;
-    }
-    lower == FIRST_LOWER
+    s.format == SECOND_FORMAT
+        || s.format == FIRST_FORMAT && s.upper == FIRST_UPPER && s.lower == FIRST_LOWER
 }
 
 // The highest limits.
+#[tactic(auto, unfolding(model::specs::Shape::most_cards))]
 fn most_cards(s: Shape) -> u32
     ensures { result ≡ most_cards (shape_by s) }
 {
     MOST_CARDS
 }
 
+#[tactic(auto, unfolding(model::specs::Shape::most_faults))]
 fn most_faults(s: Shape) -> u32
     ensures { result ≡ most_faults (shape_by s) }
 {
@@ -199,30 +194,23 @@ fn most_faults(s: Shape) -> u32
 }
 
 // C and F are 1 to the highest of the format.
+#[tactic(auto, unfolding(model::specs::Layout::limits_ok))]
 pub fn limits_ok(s: Shape) -> bool
     ensures { result ≡ limits_ok (shape_by s) }
 {
-    let c = s.cards;
-    let f = s.faults;
-    if !within(1, most_cards(s), c) {
-        return false;
-    }
-    within(1, most_faults(s), f)
+    within(1, most_cards(s), s.cards) && within(1, most_faults(s), s.faults)
 }
 
 // U is 2 to 10, L at least 1 and at most the half of U; twice L might not fit a word.
+#[tactic(auto, using(crate::proofs::Rows::half_tells), unfolding(model::specs::Layout::bounds_ok))]
 pub fn bounds_ok(s: Shape) -> bool
     ensures { result ≡ bounds_ok (shape_by s) }
 {
-    let u = s.upper;
-    let l = s.lower;
-    if !within(LEAST_UPPER, MOST_UPPER, u) {
-        return false;
-    }
-    within(1, u / 2, l)
+    within(LEAST_UPPER, MOST_UPPER, s.upper) && within(1, s.upper / 2, s.lower)
 }
 
 // The bytes of scratch that the checker takes for these words, whatever they hold.
+#[tactic(auto, unfolding(model::specs::Shape::most_cards, model::specs::Shape::most_faults, model::specs::Shape::need))]
 pub fn need(words: &[u32]) -> usize
     ensures { result ≡ need (shape_of words.now) }
 {
@@ -230,25 +218,22 @@ pub fn need(words: &[u32]) -> usize
 }
 
 // The shapes that there are.
+#[tactic(auto, unfolding(model::specs::Layout::shape_ok))]
 pub fn shape_ok(s: Shape) -> bool
     ensures { result ≡ shape_ok (shape_by s) }
 {
-    if !format_ok(s) {
-        return false;
-    }
-    if !limits_ok(s) {
-        return false;
-    }
-    bounds_ok(s)
+    format_ok(s) && limits_ok(s) && bounds_ok(s)
 }
 
 // The most buckets, and the words of a card cell.
+#[tactic(auto, unfolding(model::specs::Shape::entries))]
 pub fn top_of(s: Shape) -> u32
     ensures { result ≡ top_of (shape_by s) }
 {
     TOP
 }
 
+#[tactic(auto, unfolding(model::specs::Shape::card_width))]
 pub fn card_width(s: Shape) -> usize
     ensures { result ≡ card_width (shape_by s) }
 {
@@ -256,12 +241,14 @@ pub fn card_width(s: Shape) -> usize
 }
 
 // Where the segments, the card cells and the fault cells begin, and the whole length.
+#[tactic(auto, unfolding(model::specs::Shape::entries))]
 pub fn segments_at(s: Shape) -> usize
     ensures { result ≡ segments_at (shape_by s) }
 {
     SEGMENTS_AT
 }
 
+#[tactic(auto, unfolding(model::specs::Shape::entries, model::specs::Layout::cards_at))]
 pub fn cards_at(s: Shape) -> usize
     ensures { result ≡ cards_at (shape_by s) }
 {
@@ -276,6 +263,7 @@ pub fn faults_at(s: Shape) -> usize
     base + width * (s.cards as usize)
 }
 
+#[tactic(auto, unfolding(model::specs::Layout::length_for))]
 pub fn length_for(s: Shape) -> usize
     ensures { result ≡ length_for (shape_by s) }
 {
@@ -284,6 +272,7 @@ pub fn length_for(s: Shape) -> usize
 }
 
 // Words 14 and 15.
+#[tactic(auto, unfolding(model::specs::Layout::bounds_word))]
 pub fn bounds_word(s: Shape) -> u32
     requires { shape_ok (shape_by s) ≡ true }
     ensures { result ≡ bounds_word (shape_by s) }
@@ -298,6 +287,7 @@ pub fn bounds_word(s: Shape) -> u32
     }
 }
 
+#[tactic(auto, unfolding(model::specs::Layout::rule_word))]
 pub fn rule_word(s: Shape) -> u32
     ensures { result ≡ rule_word (shape_by s) }
 {

@@ -1,9 +1,8 @@
 // Serials and faults: which are valid, and a serial's sixteen bytes packed into and out of four words.
-ghost use Rattle.std.specs.Prelude.{◌≡◌, ◌≤◌, ◌/◌, ◌%◌, ◌^◌, eqb};
+ghost use Rattle.std.specs.Prelude.{◌≡◌, eqb};
 ghost use Rattle.model.specs.Lists.{all};
 ghost use Rattle.model.specs.Serial.{allowed, valid_serial, valid_fault};
-ghost use Rattle.model.specs.Layout.{packed};
-ghost use Rattle.reads.specs.Cells.{packed_all, unpacked_all, four_bytes};
+ghost use Rattle.reads.specs.Cells.{packed_all, unpacked_all};
 
 use crate::layout;
 
@@ -20,140 +19,59 @@ const ALLOWED: u64 = 70368743137273;
 pub fn is_allowed(b: u8) -> bool
     ensures { result ≡ allowed b }
 {
-    if b < HYPHEN {
-        return false;
-    }
-    if LAST_LETTER < b {
-        return false;
-    }
-    (ALLOWED >> (b - HYPHEN)) % 2 == 1
+    (HYPHEN..=LAST_LETTER).contains(&b) && (ALLOWED >> (b - HYPHEN)) % 2 == 1
 }
 
 // A day, 1 to 65,535, and a code, 1 to 9,999.
+#[tactic(auto, unfolding(model::specs::Serial::valid_fault))]
 pub fn valid_fault(day: u32, code: u32) -> bool
     ensures { result ≡ valid_fault day code }
 {
-    if !layout::within(1, 65535, day) {
-        return false;
-    }
-    layout::within(1, 9999, code)
+    layout::within(1, 65535, day) && layout::within(1, 9999, code)
 }
 
 // Whether all bytes are allowed.
 fn all_allowed(bytes: &[u8]) -> bool
     ensures { result ≡ all allowed bytes.now }
 {
-    let mut i: usize = 0;
-    while i < bytes.len() {
-        if !is_allowed(bytes[i]) {
-            return false;
-        }
-        i += 1;
-    }
-    true
+    bytes.iter().all(|&b| is_allowed(b))
 }
 
 // Whether all bytes are zero.
 fn all_zero(bytes: &[u8]) -> bool
     ensures { result ≡ all (eqb 0) bytes.now }
 {
-    let mut i: usize = 0;
-    while i < bytes.len() {
-        if bytes[i] != 0 {
-            return false;
-        }
-        i += 1;
-    }
-    true
+    bytes.iter().all(|&b| b == 0)
 }
 
 // Sixteen bytes and a length, as a serial travels: allowed up to the length, zero from there on.
 pub fn valid_serial(serial: [u8; 16], len: usize) -> bool
     ensures { result ≡ valid_serial serial len }
 {
-    if len < 1 {
-        return false;
-    }
-    if rules::SERIAL < len {
-        return false;
-    }
-    if !all_allowed(&serial[..len]) {
-        return false;
-    }
-    all_zero(&serial[len..])
+    (1..=rules::SERIAL).contains(&len) && all_allowed(&serial[..len]) && all_zero(&serial[len..])
 }
 
-// Four bytes as a word, the first highest.
-fn word4(a: u8, b: u8, c: u8, d: u8) -> u32
-    ensures { result ≡ four_bytes a b c d }
-{
-    ((a as u32 * 256 + b as u32) * 256 + c as u32) * 256 + d as u32
-}
-
-// Four bytes of a serial from k on, as a word.
-fn word_of(s: [u8; 16], k: usize) -> u32
-    requires { k ≤ 12 }
-    ensures { result ≡ packed s k }
-{
-    word4(s[k], s[k + 1], s[k + 2], s[k + 3])
-}
-
-// The four words of a serial's sixteen bytes.
+// The four words of a serial's sixteen bytes, the first byte of each highest.
 pub fn pack(s: [u8; 16]) -> [u32; layout::SERIAL_WORDS]
     ensures { result ≡ packed_all s }
 {
-    let a = word_of(s, 0);
-    let b = word_of(s, 4);
-    let c = word_of(s, 8);
-    let d = word_of(s, 12);
-    [a, b, c, d]
-}
-
-// The bytes of a word, the highest first.
-fn byte3(x: u32) -> u8
-    ensures { result ≡ x / 2 ^ 24 }
-{
-    (x / 16777216) as u8
-}
-
-fn byte2(x: u32) -> u8
-    ensures { result ≡ x / 2 ^ 16 % 256 }
-{
-    (x / 65536 % 256) as u8
-}
-
-fn byte1(x: u32) -> u8
-    ensures { result ≡ x / 2 ^ 8 % 256 }
-{
-    (x / 256 % 256) as u8
-}
-
-fn byte0(x: u32) -> u8
-    ensures { result ≡ x % 256 }
-{
-    (x % 256) as u8
+    [
+        u32::from_be_bytes([s[0], s[1], s[2], s[3]]),
+        u32::from_be_bytes([s[4], s[5], s[6], s[7]]),
+        u32::from_be_bytes([s[8], s[9], s[10], s[11]]),
+        u32::from_be_bytes([s[12], s[13], s[14], s[15]]),
+    ]
 }
 
 // The sixteen bytes of four words.
 pub fn unpack(a: u32, b: u32, c: u32, d: u32) -> [u8; 16]
     ensures { result ≡ unpacked_all a b c d }
 {
+    let [a0, a1, a2, a3] = a.to_be_bytes();
+    let [b0, b1, b2, b3] = b.to_be_bytes();
+    let [c0, c1, c2, c3] = c.to_be_bytes();
+    let [d0, d1, d2, d3] = d.to_be_bytes();
     [
-        byte3(a),
-        byte2(a),
-        byte1(a),
-        byte0(a),
-        byte3(b),
-        byte2(b),
-        byte1(b),
-        byte0(b),
-        byte3(c),
-        byte2(c),
-        byte1(c),
-        byte0(c),
-        byte3(d),
-        byte2(d),
-        byte1(d),
-        byte0(d),
+        a0, a1, a2, a3, b0, b1, b2, b3, c0, c1, c2, c3, d0, d1, d2, d3,
     ]
 }

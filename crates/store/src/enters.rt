@@ -24,6 +24,7 @@ pub fn make_enter(w: &mut [u32], serial: [u8; 16], len: usize, plan: Plan)
 }
 
 // Enter on a store known to be sound.
+#[tactic(auto, using(crate::proofs::CallLaws::enter_done))]
 pub fn enter_in(w: &mut [u32], serial: [u8; 16], len: usize) -> Answer
     requires { sound w.old ≡ true }
     ensures { Does (enter_step (decode w.old) serial len) result w.new [] }

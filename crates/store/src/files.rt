@@ -20,6 +20,7 @@ pub fn make_file(w: &mut [u32], plan: Plan, day: u32, code: u32)
 }
 
 // File on a store known to be sound.
+#[tactic(auto, using(crate::proofs::CallLaws::file_done))]
 pub fn file_in(w: &mut [u32], serial: [u8; 16], len: usize, day: u32, code: u32) -> Answer
     requires { sound w.old ≡ true }
     ensures { Does (file_step (decode w.old) serial len day code) result w.new [] }

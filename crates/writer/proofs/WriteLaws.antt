@@ -1,31 +1,26 @@
--- What a narrow writer did to a part that was lent on, said of the whole words: `card_lent` and `fault_lent` for one word of a cell,
--- `card_cell_lent` and `fault_cell_lent` for a whole cell, `bucket_lent` for a bucket's word.
+-- What a narrow writer did to a part that was lent on, said of the whole words: `word_lent` for one word of a cell (`card_lent` and
+-- `fault_lent` in the two parts), `words_lent` for the first words of one, `bucket_lent` for a bucket's word.
 -- The writes of a change, in a row, are the model's function on words (`place_is`, `file_is`, `remove_is`).
-use mathlib.Core.Path.{◌≡◌, sym, ap, ◌∙◌}
-use mathlib.Core.Bool.{true, cond}
-use mathlib.Core.List.{List, [], ◌∷◌, ◌++◌}
-use Prim.Native.Nat.{ℕ, zero, suc, ◌+◌, ◌-◌, ◌*◌, ◌≤◌, ◌<◌}
+use mathlib.Core.Path.{◌≡◌, refl, sym, ap, subst, ◌∙◌}
+use mathlib.Core.Bool.{Bool, true, false, cond}
+use mathlib.Core.List.{List, [], ◌∷◌, ◌++◌, append_assoc}
+use Prim.Native.Nat.{ℕ, suc, ◌+◌, ◌-◌, ◌*◌, ◌≤◌, ◌<◌}
 use native.Mathlib.Nat.{mul-le-mul_left}
 use native.Mathlib.Omega.{arith}
 use lib.Dec.{eqb}
 use lib.ListN.{length, get_or, set, take, drop, replicate, length-set}
-use lib.Seq.{sets, take-set-le, take-set-lt, drop-set-lt, drop-set-add}
+use lib.Seq.{sets, sets-eq, drop-drop, take-set-le, take-set-lt, drop-set-lt, drop-set-add}
 use borrow.Author.Tests.{eq-eqb, ne_eqb}
 use borrow.Rule.Slice.PartMut.{mid_of, put_mid, mid_len, put_same, set_mid_at}
+use Rattle.model.specs.Bounds.{least_width}
 use Rattle.model.specs.Shape.{Shape, card_width}
 use Rattle.model.specs.Layout.{held_at, faults_held_at, free_at, free_faults_at, to_next, to_first, to_last, to_count, segments_at, fault_width, faults_at, cell_at, packed, card_word, fault_word}
 use Rattle.model.specs.Serial.{valid_serial}
 use Rattle.model.specs.Words.{card_at, fault_at, link_at, new_words, place_words, file_words, give_words, remove_words}
 use Rattle.reads.specs.declared.header.Header.{Header}
-use Rattle.reads.specs.Cells.{shape_in, Sized}
+use Rattle.reads.specs.Cells.{shape_in, Sized, width_of, limit_of}
+use Rattle.writer.specs.Writes.{place_at}
 use Rattle.reads.proofs.SerialLaws.{valid_length, valid_packed}
-
--- a run of writes with one more word
-pub sets_more : (l vs : List ℕ) (i k : ℕ) → k < length vs → sets l i (take (suc k) vs) ≡ set (sets l i (take k vs)) (i + k) (get_or vs k 0)
-sets_more l [] i k h = absurd (omega arith)
-sets_more l (v ∷ vs) i zero h = ap (λ (m : ℕ). set l m v) (omega arith)
-sets_more l (v ∷ vs) i (suc k) h =
-    sets_more (set l i v) vs (suc i) k (omega arith) ∙ ap (λ (m : ℕ). set (sets (set l i v) (suc i) (take k vs)) m (get_or vs k 0)) (omega arith)
 
 -- a part from a to e
 
@@ -46,68 +41,103 @@ lent_sets w ys a e j (v ∷ vs) l is b =
     ∙ lent_sets u ys a e (suc j) vs (omega (arith, length-set w (a + j) v)) (is ∙ ap (λ (x : List ℕ). sets x (suc j) vs) (sym mid)) (omega arith)
     ∙ ap (λ (m : ℕ). sets u m vs) next
 
--- word k of cell i, in a part that has the cell whole
-pub cell_within : (width i k n : ℕ) → 1 ≤ i → width * i ≤ n → k < width → width * (i - 1) + k < n
-cell_within width i k n a b l =
+-- cell i, in a part that has it whole, and word k of it
+pub cell_whole : (width i n : ℕ) → 1 ≤ i → width * i ≤ n → width * (i - 1) + width ≤ n
+cell_whole width i n a b =
     let e : width * (i - 1 + 1) ≡ width * i = ap (λ (m : ℕ). width * m) (let d : i - 1 + 1 ≡ i = omega arith in d) in
     omega arith
+
+pub cell_within : (width i k n : ℕ) → 1 ≤ i → width * i ≤ n → k < width → width * (i - 1) + k < n
+cell_within width i k n a b l = omega (arith, cell_whole width i n a b)
+
+-- words written one behind another, and the words before and behind them
+pub written_over : (l vs : List ℕ) (a : ℕ) → a + length vs ≤ length l → take a l ++ (vs ++ drop (a + length vs - a) (drop a l)) ≡ sets l a vs
+written_over l vs a h =
+    let k : a + length vs - a ≡ length vs = omega arith in
+    rw (k, drop-drop (length vs) a l) (sym (append_assoc (take a l) vs (drop (a + length vs) l)) ∙ sym (sets-eq vs l a h))
 
 -- the parts of a store, from where its header says
 
 module _ {w : List ℕ} {h : Header} (s : Sized w h) where
-  -- cell i stands whole in its part
-  pub card_room : (i : ℕ) → i ≤ h.cards → h.width * i ≤ length (mid_of h.base (h.behind - h.base) w)
-  unfolding faults_at
-  card_room i b =
-      let r = s.room in
-      let e : h.width * i ≤ h.width * h.cards = mul-le-mul_left h.width b in
-      let f : h.width * h.cards ≡ card_width (shape_in h) * h.cards = ap (λ (n : ℕ). n * h.cards) s.width in
-      omega (arith, mid_len h.base h.behind w (omega arith), s.base, s.behind)
-
-  pub fault_room : (i : ℕ) → i ≤ h.faults → fault_width * i ≤ length (mid_of h.behind (length w - h.behind) w)
-  fault_room i b = let r = s.room in omega (arith, mid_len h.behind (length w) w (omega arith))
-
-  -- how long the card part is
-  cards_long : length (mid_of h.base (h.behind - h.base) w) ≡ h.behind - h.base
-  cards_long = let r = s.room in mid_len h.base h.behind w (omega arith)
-
   pub bucket_lent : (ys : List ℕ) (b v : ℕ) → b < h.top → ys ≡ set (mid_of h.segments (h.base - h.segments) w) b v
       → put_mid h.segments (h.base - h.segments) w ys ≡ set w (segments_at (shape_in h) + b) v
   bucket_lent ys b v l r = let m = s.room in lent_set w ys h.segments h.base b v (omega arith) r (omega arith) ∙ ap (λ (n : ℕ). set w (n + b) v) s.segments
 
-  module _ (ys : List ℕ) (i : ℕ) (low : 1 ≤ i) where
-    pub card_lent : (k v : ℕ) → i ≤ h.cards → k < h.width
-        → ys ≡ set (mid_of h.base (h.behind - h.base) w) (h.width * (i - 1) + k) v → put_mid h.base (h.behind - h.base) w ys ≡ set w (card_at (shape_in h) i k) v
-    unfolding cell_at
-    card_lent k v b l r =
-        let m = s.room in
-        let j = h.width * (i - 1) + k in
-        let c = cell_within h.width i k (length (mid_of h.base (h.behind - h.base) w)) low (card_room i b) l in
-        lent_set w ys h.base h.behind j v (omega arith) r (omega (arith, cards_long))
-        ∙ (λ t. set w (s.base t + (s.width t * (i - 1) + k)) v) ∙ ap (λ (n : ℕ). set w n v) (omega arith)
+  -- what it takes to write a word of a cell, and its first words
+  module _ {i : ℕ} (low : 1 ≤ i) where
+    module _ (high : i ≤ h.cards) where
+      pub card_put : (k : ℕ) → k < least_width → Sized w h × (1 ≤ i) × (i ≤ limit_of (shape_in h) false) × (k < width_of (shape_in h) false)
+      unfolding limit_of width_of
+      card_put k l = (s, low, high, omega (arith, s.width, s.room.wide))
 
-    pub card_cell_lent : (vs : List ℕ) → i ≤ h.cards → length vs ≤ h.width
-        → ys ≡ sets (mid_of h.base (h.behind - h.base) w) (h.width * (i - 1)) vs → put_mid h.base (h.behind - h.base) w ys ≡ sets w (card_at (shape_in h) i to_next) vs
-    unfolding cell_at
-    card_cell_lent vs b l r =
-        let m = s.room in
-        let e : h.width * (i - 1 + 1) ≡ h.width * i = ap (λ (n : ℕ). h.width * n) (let d : i - 1 + 1 ≡ i = omega arith in d) in
-        lent_sets w ys h.base h.behind (h.width * (i - 1)) vs (omega arith) r (omega (arith, card_room i b, cards_long))
-        ∙ (λ t. sets w (s.base t + s.width t * (i - 1)) vs) ∙ ap (λ (n : ℕ). sets w n vs) (omega arith)
+      pub card_cell_put : (n : ℕ) → n ≤ least_width → Sized w h × (1 ≤ i) × (i ≤ limit_of (shape_in h) false) × (n ≤ width_of (shape_in h) false)
+      unfolding limit_of width_of
+      card_cell_put n l = (s, low, high, omega (arith, s.width, s.room.wide))
 
-    pub fault_lent : (k v : ℕ) → i ≤ h.faults → k < fault_width
-        → ys ≡ set (mid_of h.behind (length w - h.behind) w) (fault_width * (i - 1) + k) v → put_mid h.behind (length w - h.behind) w ys ≡ set w (fault_at (shape_in h) i k) v
-    unfolding cell_at
-    fault_lent k v b l r =
-        let m = s.room in
-        lent_set w ys h.behind (length w) (fault_width * (i - 1) + k) v (omega arith) r (omega arith) ∙ ap (λ (n : ℕ). set w n v) (omega (arith, s.behind))
+    module _ (high : i ≤ h.faults) where
+      pub fault_put : (k : ℕ) → k < fault_width → Sized w h × (1 ≤ i) × (i ≤ limit_of (shape_in h) true) × (k < width_of (shape_in h) true)
+      unfolding limit_of width_of
+      fault_put k l = (s, low, high, l)
 
-    pub fault_cell_lent : (vs : List ℕ) → i ≤ h.faults → length vs ≡ fault_width
-        → ys ≡ sets (mid_of h.behind (length w - h.behind) w) (fault_width * (i - 1)) vs → put_mid h.behind (length w - h.behind) w ys ≡ sets w (fault_at (shape_in h) i to_next) vs
-    unfolding cell_at
-    fault_cell_lent vs b l r =
-        let m = s.room in
-        lent_sets w ys h.behind (length w) (fault_width * (i - 1)) vs (omega arith) r (omega arith) ∙ ap (λ (n : ℕ). sets w n vs) (omega (arith, s.behind))
+      pub fault_cell_put : (n : ℕ) → n ≤ fault_width → Sized w h × (1 ≤ i) × (i ≤ limit_of (shape_in h) true) × (n ≤ width_of (shape_in h) true)
+      unfolding limit_of width_of
+      fault_cell_put n l = (s, low, high, l)
+
+  -- a part ends within the words
+  pub part_end : (faults : Bool) {start width limit : ℕ} → start ≡ cond faults h.behind h.base → width ≡ width_of (shape_in h) faults → limit ≡ limit_of (shape_in h) faults
+      → start + width * limit ≤ length w
+  unfolding width_of limit_of faults_at
+  part_end true {start} {width} {limit} p z l = let r = s.room in let e : width * limit ≡ fault_width * h.faults = λ t. z t * l t in omega (arith, p, e, r.whole)
+  part_end false {start} {width} {limit} p z l = let r = s.room in let e : width * limit ≡ card_width (shape_in h) * h.cards = λ t. z t * l t in omega (arith, p, e, s.base, s.behind, r.whole)
+
+  -- where word k of its cell i stands
+  place_in : (faults : Bool) {start width : ℕ} → start ≡ cond faults h.behind h.base → width ≡ width_of (shape_in h) faults → (i k : ℕ)
+      → start + (width * (i - 1) + k) ≡ place_at (shape_in h) faults i k
+  unfolding width_of cell_at
+  place_in true p z i k = (λ t. (p ∙ s.behind) t + (z t * (i - 1) + k)) ∙ omega arith
+  place_in false p z i k = (λ t. (p ∙ s.base) t + (z t * (i - 1) + k)) ∙ omega arith
+
+  -- a word of a cell, and the first words of one, written in the part
+  module _ (faults : Bool) {start width limit : ℕ} (p : start ≡ cond faults h.behind h.base) (z : width ≡ width_of (shape_in h) faults) (l : limit ≡ limit_of (shape_in h) faults) where
+    part_long : length (mid_of start (start + width * limit - start) w) ≡ width * limit
+    part_long = mid_len start (start + width * limit) w (part_end faults p z l) ∙ omega arith
+
+    pub cell_room : (i : ℕ) → i ≤ limit_of (shape_in h) faults → width * i ≤ length (mid_of start (start + width * limit - start) w)
+    cell_room i b = let e : width * i ≤ width * limit = mul-le-mul_left width (omega (arith, l)) in omega (arith, part_long)
+
+    module _ (ys : List ℕ) (i : ℕ) (low : 1 ≤ i) (high : i ≤ limit_of (shape_in h) faults) where
+      pub word_lent : (k v : ℕ) → k < width_of (shape_in h) faults → ys ≡ set (mid_of start (start + width * limit - start) w) (width * (i - 1) + k) v
+          → put_mid start (start + width * limit - start) w ys ≡ set w (place_at (shape_in h) faults i k) v
+      word_lent k v b r =
+          let c = cell_within width i k (width * limit) low (omega (arith, cell_room i high, part_long)) (omega (arith, z)) in
+          lent_set w ys start (start + width * limit) (width * (i - 1) + k) v (part_end faults p z l) r (omega arith) ∙ ap (λ (n : ℕ). set w n v) (place_in faults p z i k)
+
+      pub words_lent : (vs : List ℕ) → length vs ≤ width_of (shape_in h) faults → ys ≡ sets (mid_of start (start + width * limit - start) w) (width * (i - 1)) vs
+          → put_mid start (start + width * limit - start) w ys ≡ sets w (place_at (shape_in h) faults i to_next) vs
+      words_lent vs b r =
+          let e = cell_whole width i (length (mid_of start (start + width * limit - start) w)) low (cell_room i high) in
+          lent_sets w ys start (start + width * limit) (width * (i - 1)) vs (part_end faults p z l) r (omega (arith, part_long, z))
+          ∙ ap (λ (n : ℕ). sets w n vs) (omega (arith, place_in faults p z i to_next))
+
+-- the same of each of the two parts, from where the header says
+module _ {w : List ℕ} {h : Header} (s : Sized w h) (ys : List ℕ) (i : ℕ) (low : 1 ≤ i) (k v : ℕ) where
+  pub card_lent : i ≤ h.cards → k < h.width → ys ≡ set (mid_of h.base (h.behind - h.base) w) (h.width * (i - 1) + k) v
+      → put_mid h.base (h.behind - h.base) w ys ≡ set w (card_at (shape_in h) i k) v
+  unfolding limit_of width_of faults_at
+  card_lent b l r =
+      let e : h.width * h.cards ≡ card_width (shape_in h) * h.cards = ap (λ (n : ℕ). n * h.cards) s.width in
+      let n : h.base + h.width * h.cards - h.base ≡ h.behind - h.base = omega (arith, e, s.base, s.behind) in
+      subst (λ (n : ℕ). put_mid h.base n w ys ≡ set w (card_at (shape_in h) i k) v) n
+      (word_lent s false refl s.width refl ys i low b k v (omega (arith, s.width)) (r ∙ ap (λ (n : ℕ). set (mid_of h.base n w) (h.width * (i - 1) + k) v) (sym n)))
+
+  pub fault_lent : i ≤ h.faults → k < fault_width → ys ≡ set (mid_of h.behind (length w - h.behind) w) (fault_width * (i - 1) + k) v
+      → put_mid h.behind (length w - h.behind) w ys ≡ set w (fault_at (shape_in h) i k) v
+  unfolding limit_of width_of
+  fault_lent b l r =
+      let m = s.room in
+      let n : h.behind + fault_width * h.faults - h.behind ≡ length w - h.behind = omega (arith, m.whole) in
+      subst (λ (n : ℕ). put_mid h.behind n w ys ≡ set w (fault_at (shape_in h) i k) v) n
+      (word_lent s true refl refl refl ys i low b k v l (r ∙ ap (λ (n : ℕ). set (mid_of h.behind n w) (fault_width * (i - 1) + k) v) (sym n)))
 
 -- the next word of a cell of a chain, or the bucket's word
 pub link_bucket : (sh : Shape) (b : ℕ) {i : ℕ} → i ≡ 0 → segments_at sh + b ≡ link_at sh b i

@@ -1,8 +1,8 @@
--- What a split and a contraction ask of the words that they write.
-use Rattle.std.specs.Prelude.{◌≡◌, true, List, ℕ, ◌+◌, ◌≤◌, ◌<◌}
+-- What a split and a contraction ask of the words that they write, and what they write into the directory.
+use Rattle.std.specs.Prelude.{◌≡◌, true, cond, List, ℕ, ◌+◌, ◌/◌, ◌%◌, ◌≤◌, ◌<◌, eqb, set}
 use Rattle.rules.specs.Table.{low_p}
-use Rattle.model.specs.Shape.{Shape}
-use Rattle.model.specs.Layout.{last, follow, fair, encode, decode}
+use Rattle.model.specs.Shape.{segment_size, Shape}
+use Rattle.model.specs.Layout.{directory_at, last, follow, fair, encode, decode}
 use Rattle.model.specs.Meaning.{next_card, bucket_word, bucket_cells}
 use Rattle.reads.specs.Cells.{shape_in, Read}
 use Rattle.reads.specs.Chains.{Ends}
@@ -21,6 +21,10 @@ pub record MayJoin (w : List ℕ) (h : Header) : Type 0 where
   pub some : 2 ≤ h.maxp
   pub room : h.maxp + h.p ≤ h.top
   pub chain : Ends h.cards (next_card (shape_in h) w) (bucket_word (shape_in h) w (low_p h.maxp h.p))
+
+-- where bucket n is the first of its segment, the directory's word for that becomes v
+abbrev pub segment_set : List ℕ → ℕ → ℕ → List ℕ
+segment_set w n v = cond (eqb (n % segment_size) 0) (set w (directory_at + n / segment_size) v) w
 
 -- the last cell of the chain from cell h on, and of bucket b's chain; 0 for none
 unfoldable pub last_from : Shape → List ℕ → ℕ → ℕ

@@ -1,10 +1,17 @@
--- What each change asks of the words that it writes: that all cells it names are there.
-use Rattle.std.specs.Prelude.{◌≡◌, List, ℕ, ◌≤◌, ◌<◌, get_or}
+-- Where a word of a cell stands, and what each change asks of the words that it writes: that all cells it names are there.
+use Rattle.std.specs.Prelude.{◌≡◌, Bool, true, false, List, ℕ, ◌≤◌, ◌<◌, get_or}
+use Rattle.model.specs.Shape.{Shape}
+use Rattle.model.specs.Words.{card_at, fault_at}
 use Rattle.model.specs.Layout.{held_at, faults_held_at, free_at, free_faults_at, to_first, to_last, to_count, last, follow, card_word}
 use Rattle.model.specs.Meaning.{next_fault}
 use Rattle.reads.specs.Cells.{shape_in, Sized}
 use Rattle.reads.specs.Chains.{Ends}
 use Rattle.reads.specs.declared.header.Header.{Header}
+
+-- where word k of cell i of the faults or of the cards stands
+abbrev pub place_at : Shape → Bool → ℕ → ℕ → ℕ
+place_at sh true i k = fault_at sh i k
+place_at sh false i k = card_at sh i k
 
 -- a new card: there is a free cell, and i is a cell of the chain of bucket b or 0
 pub record MayPlace (w : List ℕ) (h : Header) (b i : ℕ) : Type 0 where

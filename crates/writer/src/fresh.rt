@@ -39,35 +39,12 @@ fn fresh_header(s: Shape) -> [u32; layout::HEADER]
     ]
 }
 
-// The header, written whole.
-fn put_row(part: &mut [u32], row: [u32; layout::HEADER])
-    requires { length part.old ≡ directory_at }
-    ensures { part.new ≡ row }
-{
-    let mut i: usize = 0;
-    while i < layout::HEADER {
-        part[i] = row[i];
-        i += 1;
-    }
-}
-
-// All words zero.
-fn clear(part: &mut [u32])
-    ensures { part.new ≡ replicate (length part.old) 0 }
-{
-    let mut i: usize = 0;
-    while i < part.len() {
-        part[i] = 0;
-        i += 1;
-    }
-}
-
 // One word, and zeros behind it: a free cell, and the directory of a single segment.
 fn put_first(part: &mut [u32], first: u32)
     requires { 0 < length part.old }
     ensures { part.new ≡ leading (length part.old) first }
 {
-    clear(part);
+    part.fill(0);
     part[0] = first;
 }
 
@@ -83,13 +60,9 @@ fn fill_cells(part: &mut [u32], width: usize, n: u32)
     requires { (0 < width) × (length part.old ≡ width * n) }
     ensures { part.new ≡ cells_to width n n }
 {
-    let mut i: u32 = 0;
-    let mut at: usize = 0;
-    while i < n {
-        let end = at + width;
-        i += 1;
-        put_first(&mut part[at..end], next_of(i, n));
-        at = end;
+    for i in 0..n {
+        let at = width * i as usize;
+        put_first(&mut part[at..at + width], next_of(i + 1, n));
     }
 }
 
@@ -100,7 +73,7 @@ fn fill_head(part: &mut [u32], s: Shape)
 {
     let row = fresh_header(s);
     let segments = layout::segments_at(s) as u32;
-    put_row(&mut part[0..layout::DIRECTORY_AT], row);
+    part[0..layout::DIRECTORY_AT].copy_from_slice(&row);
     put_first(&mut part[layout::DIRECTORY_AT..], segments);
 }
 
@@ -116,7 +89,7 @@ pub fn fill(words: &mut [u32], s: Shape)
     let cards = s.cards;
     let faults = s.faults;
     fill_head(&mut words[0..segments], s);
-    clear(&mut words[segments..base]);
+    words[segments..base].fill(0);
     fill_cells(&mut words[base..behind], width, cards);
     fill_cells(&mut words[behind..], layout::FAULT_WIDTH, faults);
 }

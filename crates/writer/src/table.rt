@@ -4,10 +4,10 @@ ghost use Rattle.rules.specs.Table.{top, low_p};
 ghost use Rattle.model.specs.Model.{grown, shrunk};
 ghost use Rattle.model.specs.Layout.{held_at, maxp_at, p_at, directory_at, encode, decode};
 ghost use Rattle.model.specs.Meaning.{next_card, bucket_word};
-ghost use Rattle.model.specs.Words.{open_words, close_words, moves_at, part_words, split_words, join_words};
+ghost use Rattle.model.specs.Words.{moves_at, part_words, split_words, join_words};
 ghost use Rattle.reads.specs.Cells.{shape_in, Sized, Read};
 ghost use Rattle.reads.specs.Chains.{Ends};
-ghost use Rattle.writer.specs.Table.{MaySplit, MayJoin, last_from, last_of, Fairly};
+ghost use Rattle.writer.specs.Table.{MaySplit, MayJoin, segment_set, last_from, last_of, Fairly};
 
 use crate::writes;
 use reads::header::Header;
@@ -38,6 +38,7 @@ fn part(w: &mut [u32], h: Header)
     let mut x = cells::bucket_word(w, h, p);
     let mut k: u32 = 0;
     let mut g: u32 = 0;
+    // Kept: no plainer, since this goes along a chain of cells by their next words and no index is counted by hand.
     while x != 0 {
         let old: &[u32] = w;
         let next = cells::card_word(old, h, x, layout::TO_NEXT);
@@ -54,23 +55,13 @@ fn part(w: &mut [u32], h: Header)
     writes::link(w, h, n, g, 0);
 }
 
-// Bucket n appears, and goes: its segment is taken, and freed, with its first bucket.
-fn open_bucket(w: &mut [u32], h: Header, n: u32)
+// A segment is taken, and freed, with its first bucket: where bucket n is that, its word of the directory becomes v.
+fn set_segment(w: &mut [u32], h: Header, n: u32, v: u32)
     requires { Sized w.old h × (n < h.top) }
-    ensures { w.new ≡ open_words (shape_in h) w.old n }
-{
-    let segments = h.segments as u32;
-    if n % layout::SEGMENT_SIZE == 0 {
-        w[layout::DIRECTORY_AT + (n / layout::SEGMENT_SIZE) as usize] = segments + n;
-    }
-}
-
-fn close_bucket(w: &mut [u32], h: Header, n: u32)
-    requires { Sized w.old h × (n < h.top) }
-    ensures { w.new ≡ close_words (shape_in h) w.old n }
+    ensures { w.new ≡ segment_set w.old n v }
 {
     if n % layout::SEGMENT_SIZE == 0 {
-        w[layout::DIRECTORY_AT + (n / layout::SEGMENT_SIZE) as usize] = 0;
+        w[layout::DIRECTORY_AT + (n / layout::SEGMENT_SIZE) as usize] = v;
     }
 }
 
@@ -88,8 +79,9 @@ pub fn split(w: &mut [u32], h: Header)
     requires { MaySplit w.old h }
     ensures { w.new ≡ split_words (shape_in h) w.old }
 {
+    let n = h.maxp + h.p;
     part(w, h);
-    open_bucket(w, h, h.maxp + h.p);
+    set_segment(w, h, n, h.segments as u32 + n);
     set_state(w, rules::high_maxp(h.maxp, h.p), rules::high_p(h.maxp, h.p));
 }
 
@@ -100,6 +92,7 @@ fn last_of(w: &[u32], h: Header, b: u32) -> u32
 {
     let mut i = cells::bucket_word(w, h, b);
     let mut last: u32 = 0;
+    // Kept: no plainer, since this goes along a chain of cells by their next words and no index is counted by hand.
     while i != 0 {
         last = i;
         i = cells::card_word(w, h, i, layout::TO_NEXT);
@@ -122,7 +115,7 @@ pub fn join(w: &mut [u32], h: Header)
     let first = cells::bucket_word(old, h, going);
     writes::link(w, h, b, k, first);
     writes::put_bucket(w, h, going, 0);
-    close_bucket(w, h, going);
+    set_segment(w, h, going, 0);
     set_state(w, rules::low_maxp(maxp, p), b);
 }
 

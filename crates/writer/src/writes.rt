@@ -2,16 +2,16 @@
 // alone; what it did is said of the whole words by the function that lends the part.
 ghost use Rattle.std.specs.Prelude.{◌≡◌, true, cond, ◌∷◌, ◌+◌, ◌-◌, ◌*◌, ◌≤◌, ◌<◌, eqb, length, set, take, replicate};
 ghost use Rattle.std.proofs.lemmas.List.Edits.{sets};
-ghost use Rattle.model.specs.Bounds.{least_width};
 ghost use Rattle.model.specs.Serial.{valid_serial};
 ghost use Rattle.model.specs.Layout.{faults_held_at, free_at, to_next, to_first, to_last, to_count, segments_at, fault_width, follow, last as last_of};
 ghost use Rattle.model.specs.Meaning.{next_fault};
 ghost use Rattle.model.specs.Words.{card_at, fault_at, link_at, new_words, place_words, file_words, clear_words, give_words, remove_words};
 ghost use Rattle.model.specs.Shape.{card_width};
-ghost use Rattle.reads.specs.Cells.{shape_in, Sized};
+ghost use Rattle.reads.specs.Cells.{shape_in, Sized, width_of, limit_of};
 ghost use Rattle.reads.specs.Chains.{Ends};
-ghost use Rattle.writer.specs.Writes.{MayPlace, MayFile, MayRemove};
+ghost use Rattle.writer.specs.Writes.{place_at, MayPlace, MayFile, MayRemove};
 
+use reads::cells::{Cards, Faults, Part};
 use reads::header::Header;
 use reads::{cells, layout, serial};
 
@@ -23,50 +23,23 @@ fn set_bucket(segments: &mut [u32], b: u32, v: u32)
     segments[b as usize] = v;
 }
 
-// Words written one behind another, from place `at` on.
-fn write(part: &mut [u32], at: usize, words: &[u32])
-    requires { at + length words.now ≤ length part.old }
-    ensures { part.new ≡ sets part.old at words.now }
-{
-    let mut k: usize = 0;
-    while k < words.len() {
-        part[at + k] = words[k];
-        k += 1;
-    }
-}
-
-// Word k of card cell i, in the card part.
-fn set_card(cards: &mut [u32], width: usize, i: u32, k: usize, v: u32)
-    requires { (1 ≤ i) × (width * i ≤ length cards.old) × (k < width) }
-    ensures { cards.new ≡ set cards.old (width * (i - 1) + k) v }
+// Word k of cell i, in a part whose cells have `width` words.
+fn set_word(part: &mut [u32], width: usize, i: u32, k: usize, v: u32)
+    requires { (1 ≤ i) × (width * i ≤ length part.old) × (k < width) }
+    ensures { part.new ≡ set part.old (width * (i - 1) + k) v }
 {
     let cell = (i - 1) as usize;
-    cards[width * cell + k] = v;
+    part[width * cell + k] = v;
 }
 
-// The whole of card cell i.
-fn fill_card(cards: &mut [u32], width: usize, i: u32, words: [u32; layout::CARD_WIDTH])
-    requires { (1 ≤ i) × (width * i ≤ length cards.old) × (least_width ≤ width) }
-    ensures { cards.new ≡ sets cards.old (width * (i - 1)) words }
+// The first words of cell i, in such a part.
+fn set_words(part: &mut [u32], width: usize, i: u32, words: &[u32])
+    requires { (1 ≤ i) × (width * i ≤ length part.old) × (length words.now ≤ width) }
+    ensures { part.new ≡ sets part.old (width * (i - 1)) words.now }
 {
-    let cell = (i - 1) as usize;
-    write(cards, width * cell, &words);
-}
-
-// Word k of fault cell i, in the fault part.
-fn set_fault(faults: &mut [u32], i: u32, k: usize, v: u32)
-    requires { (1 ≤ i) × (fault_width * i ≤ length faults.old) × (k < fault_width) }
-    ensures { faults.new ≡ set faults.old (fault_width * (i - 1) + k) v }
-{
-    faults[layout::FAULT_WIDTH * ((i - 1) as usize) + k] = v;
-}
-
-// The whole of fault cell i.
-fn fill_fault(faults: &mut [u32], i: u32, words: [u32; layout::FAULT_WIDTH])
-    requires { (1 ≤ i) × (fault_width * i ≤ length faults.old) }
-    ensures { faults.new ≡ sets faults.old (fault_width * (i - 1)) words }
-{
-    write(faults, layout::FAULT_WIDTH * ((i - 1) as usize), &words);
+    let at = width * (i - 1) as usize;
+    let end = at + words.len();
+    part[at..end].copy_from_slice(words);
 }
 
 // A bucket's word, a word of a cell and a whole cell, in the whole words: each lends its part to the narrow writer.
@@ -79,38 +52,24 @@ pub fn put_bucket(w: &mut [u32], h: Header, b: u32, v: u32)
     set_bucket(&mut w[a..e], b, v);
 }
 
-pub fn put_card(w: &mut [u32], h: Header, i: u32, k: usize, v: u32)
-    requires { Sized w.old h × (1 ≤ i) × (i ≤ h.cards) × (k < h.width) }
-    ensures { w.new ≡ set w.old (card_at (shape_in h) i k) v }
+pub fn put<P: Part>(w: &mut [u32], h: Header, i: u32, k: usize, v: u32)
+    requires { Sized w.old h × (1 ≤ i) × (i ≤ limit_of (shape_in h) P.faults) × (k < width_of (shape_in h) P.faults) }
+    ensures { w.new ≡ set w.old (place_at (shape_in h) P.faults i k) v }
 {
-    let a = h.base;
-    let e = h.behind;
-    set_card(&mut w[a..e], h.width, i, k, v);
+    let start = P::start(h);
+    let width = P::width(h);
+    let end = start + width * P::limit(h) as usize;
+    set_word(&mut w[start..end], width, i, k, v);
 }
 
-pub fn put_card_cell(w: &mut [u32], h: Header, i: u32, words: [u32; layout::CARD_WIDTH])
-    requires { Sized w.old h × (1 ≤ i) × (i ≤ h.cards) }
-    ensures { w.new ≡ sets w.old (card_at (shape_in h) i to_next) words }
+pub fn put_cell<P: Part>(w: &mut [u32], h: Header, i: u32, words: &[u32])
+    requires { Sized w.old h × (1 ≤ i) × (i ≤ limit_of (shape_in h) P.faults) × (length words.now ≤ width_of (shape_in h) P.faults) }
+    ensures { w.new ≡ sets w.old (place_at (shape_in h) P.faults i to_next) words.now }
 {
-    let a = h.base;
-    let e = h.behind;
-    fill_card(&mut w[a..e], h.width, i, words);
-}
-
-pub fn put_fault(w: &mut [u32], h: Header, i: u32, k: usize, v: u32)
-    requires { Sized w.old h × (1 ≤ i) × (i ≤ h.faults) × (k < fault_width) }
-    ensures { w.new ≡ set w.old (fault_at (shape_in h) i k) v }
-{
-    let a = h.behind;
-    set_fault(&mut w[a..], i, k, v);
-}
-
-pub fn put_fault_cell(w: &mut [u32], h: Header, i: u32, words: [u32; layout::FAULT_WIDTH])
-    requires { Sized w.old h × (1 ≤ i) × (i ≤ h.faults) }
-    ensures { w.new ≡ sets w.old (fault_at (shape_in h) i to_next) words }
-{
-    let a = h.behind;
-    fill_fault(&mut w[a..], i, words);
+    let start = P::start(h);
+    let width = P::width(h);
+    let end = start + width * P::limit(h) as usize;
+    set_words(&mut w[start..end], width, i, words);
 }
 
 // Which cell stands behind cell i of bucket b's chain: the next word of i, or the bucket's word where i is 0.
@@ -121,7 +80,7 @@ pub fn link(w: &mut [u32], h: Header, b: u32, i: u32, v: u32)
     if i == 0 {
         put_bucket(w, h, b, v);
     } else {
-        put_card(w, h, i, layout::TO_NEXT, v);
+        put::<Cards>(w, h, i, layout::TO_NEXT, v);
     }
 }
 
@@ -130,9 +89,8 @@ fn card_words(serial: [u8; 16], len: usize) -> [u32; layout::CARD_WIDTH]
     requires { valid_serial serial len ≡ true }
     ensures { result ≡ new_words (take len serial) }
 {
-    let n = len as u32;
-    let key = serial::pack(serial);
-    [0, n, key[0], key[1], key[2], key[3], 0, 0, 0]
+    let [a, b, c, d] = serial::pack(serial);
+    [0, len as u32, a, b, c, d, 0, 0, 0]
 }
 
 // A new card takes the first free cell, behind cell `last` of bucket b's chain or as its first.
@@ -145,7 +103,7 @@ pub fn place(w: &mut [u32], h: Header, b: u32, last: u32, serial: [u8; 16], len:
     let held = w[layout::HELD_AT] + 1;
     let words = card_words(serial, len);
     w[layout::FREE_AT] = next;
-    put_card_cell(w, h, new, words);
+    put_cell::<Cards>(w, h, new, &words);
     link(w, h, b, last, new);
     w[layout::HELD_AT] = held;
 }
@@ -156,9 +114,9 @@ fn link_fault(w: &mut [u32], h: Header, i: u32, last: u32, v: u32)
     ensures { w.new ≡ set w.old (cond (eqb last 0) (card_at (shape_in h) i to_first) (fault_at (shape_in h) last to_next)) v }
 {
     if last == 0 {
-        put_card(w, h, i, layout::TO_FIRST, v);
+        put::<Cards>(w, h, i, layout::TO_FIRST, v);
     } else {
-        put_fault(w, h, last, layout::TO_NEXT, v);
+        put::<Faults>(w, h, last, layout::TO_NEXT, v);
     }
 }
 
@@ -167,8 +125,8 @@ fn put_counts(w: &mut [u32], h: Header, i: u32, last: u32, count: u32, held: u32
     requires { Sized w.old h × (1 ≤ i) × (i ≤ h.cards) }
     ensures { w.new ≡ set (set (set w.old (card_at (shape_in h) i to_last) last) (card_at (shape_in h) i to_count) count) faults_held_at held }
 {
-    put_card(w, h, i, layout::TO_LAST, last);
-    put_card(w, h, i, layout::TO_COUNT, count);
+    put::<Cards>(w, h, i, layout::TO_LAST, last);
+    put::<Cards>(w, h, i, layout::TO_COUNT, count);
     w[layout::FAULTS_HELD_AT] = held;
 }
 
@@ -184,7 +142,7 @@ pub fn file_at(w: &mut [u32], h: Header, cell: u32, day: u32, code: u32)
     let count = cells::card_word(old, h, cell, layout::TO_COUNT) + 1;
     let held = old[layout::FAULTS_HELD_AT] + 1;
     w[layout::FREE_FAULTS_AT] = next;
-    put_fault_cell(w, h, new, [0, day, code]);
+    put_cell::<Faults>(w, h, new, &[0, day, code]);
     link_fault(w, h, cell, last, new);
     put_counts(w, h, cell, new, count, held);
 }
@@ -195,10 +153,11 @@ fn clear_history(w: &mut [u32], h: Header, first: u32)
     ensures { w.new ≡ clear_words h.faults (shape_in h) w.old first }
 {
     let mut i = first;
+    // Kept: no plainer, since this goes along a chain of cells by their next words and no index is counted by hand.
     while i != 0 {
         let next = cells::fault_word(w, h, i, layout::TO_NEXT);
-        put_fault(w, h, i, layout::TO_DAY, 0);
-        put_fault(w, h, i, layout::TO_CODE, 0);
+        put::<Faults>(w, h, i, layout::TO_DAY, 0);
+        put::<Faults>(w, h, i, layout::TO_CODE, 0);
         i = next;
     }
 }
@@ -213,7 +172,7 @@ fn give_back(w: &mut [u32], h: Header, first: u32, last: u32)
     }
     let free = w[layout::FREE_FAULTS_AT];
     clear_history(w, h, first);
-    put_fault(w, h, last, layout::TO_NEXT, free);
+    put::<Faults>(w, h, last, layout::TO_NEXT, free);
     w[layout::FREE_FAULTS_AT] = first;
 }
 
@@ -222,7 +181,7 @@ fn free_card(w: &mut [u32], h: Header, i: u32, free: u32)
     requires { Sized w.old h × (1 ≤ i) × (i ≤ h.cards) }
     ensures { w.new ≡ set (sets w.old (card_at (shape_in h) i to_next) (free ∷ replicate (card_width (shape_in h) - 1) 0)) free_at i }
 {
-    put_card_cell(w, h, i, [free, 0, 0, 0, 0, 0, 0, 0, 0]);
+    put_cell::<Cards>(w, h, i, &[free, 0, 0, 0, 0, 0, 0, 0, 0]);
     w[layout::FREE_AT] = i;
 }
 

@@ -18,9 +18,6 @@ enough c = omega (arith, c.if-scratch-need.false, c.need.ensures)
 pub returns-then-scratch-need : goal.returns-then-scratch-need
 returns-then-scratch-need c = admit_short _ _ (short c)
 
-pub check-requires : goal.check-requires
-check-requires c = enough (goal.at.check-requires c).Else-scratch-need
-
 pub returns-then-not-check : goal.returns-then-not-check
 returns-then-not-check c =
     admit_unsound _ _ (enough (goal.at.returns-then-not-check c).Else-scratch-need) c.check.ensures.1 (sym c.check.ensures.0 ∙ c.if-not-check.true)

@@ -1,4 +1,4 @@
--- `cells::met_first` meets its contract: the loop's invariant is that what the search answers from here is what it answers from the start.
+-- `fits::met_first` meets its contract: the loop's invariant is that what the search answers from here is what it answers from the start.
 use mathlib.Core.Path.{sym, ◌∙◌}
 use native.Mathlib.Omega.{arith}
 use lib.Dec.{lit<}
@@ -7,35 +7,35 @@ use Rattle.model.proofs.Lists.{between_is}
 use Rattle.reads.specs.Cells.{shape_in}
 use Rattle.reads.proofs.CellLaws.{word_in}
 use Rattle.checker.proofs.FitLaws.{met_start, met_here, met_out, met_twin, met_on, met_end}
+use Rattle.checker.proofs.fits.met_first.Goals.{then-not-within-via-then-not-within, then-not-within-via-else-not-within+then-same_key}
 use Rattle.checker.proofs.fits.met_first.Goals as goal
 
-pub loop-n-init : goal.loop-n-init
-loop-n-init c = (omega arith, met_start _ _ _ _ _)
+pub loop-init : goal.loop-init
+loop-init c = met_start _ _ _ _ _
 
 pub returns-then-j-i : goal.returns-then-j-i
 returns-then-j-i c =
     let a = c.args in
-    let l = c.loop-n in
-    sym (sym l.invariant.1 ∙ met_here (shape_in a.h) a.w.now l.j a.i a.h.cards l.n c.loop-n-test.true c.if-j-i.true)
-
-pub returns-then-not-within : goal.returns-then-not-within
-returns-then-not-within c =
-    let a = c.args in
-    let l = c.loop-n in
-    let e = sym c.within.ensures ∙ c.if-not-within.true in
-    sym (sym l.invariant.1 ∙ met_out (shape_in a.h) a.w.now l.j a.i a.h.cards l.n c.loop-n-test.true c.if-j-i.false e)
+    let l = c.loop in
+    sym (sym l.invariant ∙ met_here (shape_in a.h) a.w.now l.j a.i a.h.cards l.counter c.loop-test.true c.if-j-i.true)
 
 pub same_key-requires : goal.same_key-requires
 same_key-requires c =
     let e = (between_is 1 _ _).0 (sym c.within.ensures ∙ c.if-not-within.false) in
     (c.requires.0, e.0, e.1, c.requires.1, c.requires.2)
 
-pub returns-then-same_key : goal.returns-then-same_key
-returns-then-same_key c =
+pub returns-then-not-within : goal.returns-then-not-within
+returns-then-not-within c =
     let a = c.args in
-    let l = c.loop-n in
-    let e = sym c.within.ensures ∙ c.if-not-within.false in
-    sym (sym l.invariant.1 ∙ met_twin (shape_in a.h) a.w.now l.j a.i a.h.cards l.n c.loop-n-test.true c.if-j-i.false e (sym c.same_key.ensures ∙ c.if-same_key.true))
+    let l = c.loop in
+    elim c.then-not-within.branch [
+      | then-not-within-via-then-not-within w ↦
+          let e = sym c.within.ensures ∙ w.if-not-within.true in
+          sym (sym l.invariant ∙ met_out (shape_in a.h) a.w.now l.j a.i a.h.cards l.counter c.loop-test.true c.if-j-i.false e)
+      | then-not-within-via-else-not-within+then-same_key w ↦
+          let e = sym c.within.ensures ∙ w.if-not-within.false in
+          sym (sym l.invariant ∙ met_twin (shape_in a.h) a.w.now l.j a.i a.h.cards l.counter c.loop-test.true c.if-j-i.false e (sym w.same_key.ensures ∙ w.if-same_key.true))
+    ]
 
 pub card_word-j-requires : goal.card_word-j-requires
 card_word-j-requires c =
@@ -43,18 +43,16 @@ card_word-j-requires c =
     let s = c.requires.0 in
     (s, e.0, e.1, word_in s to_next (lit< tt))
 
-pub loop-n-preserved : goal.loop-n-preserved
-loop-n-preserved c =
+pub loop-preserved : goal.loop-preserved
+loop-preserved c =
     let a = c.args in
-    let l = c.loop-n in
-    let e = sym c.within.ensures ∙ c.if-not-within.false in (
-      omega arith,
-      rw c.card_word-j.ensures
-          (met_on (shape_in a.h) a.w.now l.j a.i a.h.cards l.n c.loop-n-test.true c.if-j-i.false e (sym c.same_key.ensures ∙ c.if-same_key.false) ∙ l.invariant.1),
-    )
+    let l = c.loop in
+    let e = sym c.within.ensures ∙ c.if-not-within.false in
+    rw c.card_word-j.ensures
+    (met_on (shape_in a.h) a.w.now l.j a.i a.h.cards l.counter c.loop-test.true c.if-j-i.false e (sym c.same_key.ensures ∙ c.if-same_key.false) ∙ l.invariant)
 
 pub returns : goal.returns
 returns c =
     let a = c.args in
-    let l = c.loop-n in
-    sym (sym l.invariant.1 ∙ met_end (shape_in a.h) a.w.now l.j a.i a.h.cards l.n (omega arith))
+    let l = c.loop in
+    sym (sym l.invariant ∙ met_end (shape_in a.h) a.w.now l.j a.i a.h.cards l.counter (omega arith))

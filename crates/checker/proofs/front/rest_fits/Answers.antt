@@ -1,38 +1,15 @@
--- `front::rest_fits` meets its contract: the loop tests bucket words from b on; its invariant is that what is left to test decides.
-use mathlib.Core.Path.{refl, sym, ◌∙◌}
+-- `front::rest_fits` meets its contract: the bucket words from b on are a part of the words, and all of it is tested.
+use mathlib.Core.Path.{◌∙◌}
+use Prim.Native.Nat.{◌+◌}
 use native.Mathlib.Omega.{arith}
-use borrow.Author.Tests.{eq-eqb, ne_eqb}
-use Rattle.reads.proofs.Rows.{test_more, test_fails, test_ends}
-use Rattle.checker.proofs.TestLaws.{empty_at, rest_start}
+use Rattle.std.proofs.Common.{rules, tests}
+use Rattle.std.proofs.lemmas.Iterator.{YieldsList-from_slice}
+use Rattle.std.proofs.lemmas.Iterator.Search.{all_from_yields_List}
+use Rattle.checker.proofs.TestLaws.{is_zero, words_in, rest_all}
 use Rattle.checker.proofs.front.rest_fits.Goals as goal
-
-pub returns-then-word-ne0 : goal.returns-then-word-ne0
-unfolding empty_at
-returns-then-word-ne0 c =
-    let l = c.loop-j in
-    let z = c.requires.0 in
-    sym (sym (rest_start _ c.args.w.now c.args.b z.segments z.top) ∙ sym l.invariant.1 ∙ test_fails (empty_at _ c.args.w.now) l.j _ (omega arith) (ne_eqb _ _ (λ e. c.if-word-ne0.true (c.word.ensures ∙ e))))
-
-pub loop-j-preserved : goal.loop-j-preserved
-unfolding empty_at
-loop-j-preserved c =
-    let l = c.loop-j in
-    (omega arith, test_more (empty_at _ c.args.w.now) l.j _ (omega arith) (eq-eqb _ _ (sym c.word.ensures ∙ c.if-word-ne0.false)) ∙ l.invariant.1)
 
 pub returns : goal.returns
 returns c =
-    let l = c.loop-j in
     let z = c.requires.0 in
-    sym (sym (rest_start _ c.args.w.now c.args.b z.segments z.top) ∙ sym l.invariant.1 ∙ test_ends (empty_at _ c.args.w.now) l.j _ (omega arith))
-
-pub loop-j-init : goal.loop-j-init
-loop-j-init c = (omega (arith, c.requires), refl)
-
-pub overflow_add-segments : goal.overflow_add-segments
-overflow_add-segments c = omega (arith, c.requires.0.room)
-
-pub word-requires : goal.word-requires
-word-requires c = omega (arith, c.requires.0.room)
-
-pub overflow_add-j : goal.overflow_add-j
-overflow_add-j c = omega (arith, c.requires.0.room)
+    all_from_yields_List is_zero _ _ c.all.result c.all.ensures.ran (YieldsList-from_slice (words_in c.args.w.now (c.args.h.segments + c.args.b) (c.args.h.segments + c.args.h.top)) cc) (λ x b q k. search (rules, tests))
+    ∙ rest_all _ c.args.w.now c.args.b z.segments z.top (omega (arith, c.requires.1)) (omega (arith, z.room))

@@ -6,8 +6,8 @@ use Rattle.checker.proofs.WalkLaws.{Going}
 use Rattle.checker.proofs.walks.walk.Given as goal
 
 abbrev pub invariant-loop-i : goal.invariant-loop-i
-invariant-loop-i l =
-    Going (cell_fits (shape_in l.h) l.w l.faults l.chain) (next_in (shape_in l.h) l.w l.faults) l.initial.scratch l.base l.limit l.first l.scratch l.i l.n l.last
+invariant-loop-i g l =
+    Going (cell_fits (shape_in l.h) l.w g.P.Part.faults l.chain) (next_in (shape_in l.h) l.w g.P.Part.faults) l.initial.scratch l.base l.limit l.first l.scratch l.i l.count l.last
 
 abbrev pub decreases-loop-i : goal.decreases-loop-i
-decreases-loop-i l = l.limit - l.n
+decreases-loop-i g l = l.limit - l.count

@@ -1,27 +1,9 @@
--- `walks::walk_on` meets its contract: faults have histories, cards have buckets, and either chain is walked from its first cell.
-use mathlib.Core.Path.{ap}
-use mathlib.Core.Bool.{Bool}
-use Prim.Native.Nat.{◌<◌}
-use native.Mathlib.Omega.{arith}
-use Rattle.model.specs.Shape.{top_of}
-use Rattle.reads.specs.Cells.{shape_in}
-use Rattle.checker.specs.Checker.{chain_of, reach_of}
+-- `walks::walk_on` meets its contract: chain j is one of its part, and is walked from its first cell.
+use Rattle.checker.proofs.PartRuns.{suits_chain}
 use Rattle.checker.proofs.walks.walk_on.Goals as goal
 
-pub walk-requires-else-faults : goal.walk-requires-else-faults
-unfolding reach_of
-walk-requires-else-faults c =
-    let p = c.requires in
-    let a = c.args in
-    let b : a.j < top_of (shape_in a.h) = rw c.if-faults.false at p.1 in
-    (p.0, (c.if-faults.false, omega (arith, b, p.0.read.sized.top)))
+pub walk-requires : goal.walk-requires
+walk-requires g c = let p = c.requires in (p.0, rw c.chain.ensures (suits_chain p.0.read g.P.Part.faults _ p.1))
 
-pub returns-then-faults : goal.returns-then-faults
-returns-then-faults c =
-    let j = c.args.j in
-    rw (ap (λ (t : Bool). chain_of t j) c.if-faults.true, ← c.first_of-first.ensures) c.walk.ensures
-
-pub returns-else-faults : goal.returns-else-faults
-returns-else-faults c =
-    let j = c.args.j in
-    rw (ap (λ (t : Bool). chain_of t j) c.if-faults.false, ← c.first_of-first.ensures) c.walk-else-faults.ensures
+pub returns : goal.returns
+returns g c = rw (← c.chain.ensures, ← c.first_of-first.ensures) c.walk.ensures

@@ -5,6 +5,3 @@ use Rattle.reads.proofs.header.header_of.Goals as goal
 
 pub read-requires : goal.read-requires
 read-requires c = (let r = (sound_is _ c.requires).0 in (limits_from _ _ r, offsets_from _ _ r))
-
-pub returns : goal.returns
-returns c = c.read.ensures

@@ -4,4 +4,4 @@ use Rattle.reads.proofs.keys.bytes_at.Goals as goal
 
 pub returns : goal.returns
 unfolding bytes_at
-returns c = rw (c.unpack.ensures, c.key_at-key.ensures)
+returns c = rw (c.unpack.ensures, c.key_at.ensures)

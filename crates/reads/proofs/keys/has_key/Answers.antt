@@ -1,25 +1,23 @@
--- `keys::has_key` meets its contract: the four words are compared from the last to the first, then the length; the loop's invariant is that
--- the words behind agree.
-use mathlib.Core.Path.{sym, ◌∙◌}
-use Prim.Native.Nat.{◌-◌}
-use native.Mathlib.Omega.{arith}
-use Rattle.reads.proofs.KeyLaws.{key_differs, key_agrees, from_end, from_word}
+-- `keys::has_key` meets its contract: the four words are compared from the last to the first, and where all agree the length decides.
+use mathlib.Core.Path.{◌≡◌, sym, ◌∙◌}
+use mathlib.Core.Bool.{false}
+use Prim.Native.Nat.{ℕ, ◌+◌, ◌<◌}
+use lib.ListN.{get_or}
+use Rattle.std.proofs.Common.{rules}
+use Rattle.std.proofs.iter.runs.Sources.{ranges}
+use Rattle.model.specs.Layout.{to_serial, serial_words, card_word}
+use Rattle.reads.specs.Cells.{shape_in}
+use Rattle.reads.proofs.KeyLaws.{word_agrees, key_alike, key_unlike}
 use Rattle.reads.proofs.keys.has_key.Goals as goal
 
-pub loop-k-init : goal.loop-k-init
-loop-k-init c = (omega arith, from_end _ _ _ _)
+pub returns-then-all : goal.returns-then-all
+returns-then-all c =
+    let a = c.args in
+    let e : (k : ℕ) → k < serial_words → card_word (shape_in a.h) a.w.now a.i (k + to_serial) ≡ get_or a.key k 0 = λ k h. search (rules, ranges) in
+    rw c.card_word.ensures (sym (key_alike _ _ _ _ _ e))
 
-pub returns-then-card_word-key : goal.returns-then-card_word-key
-returns-then-card_word-key c =
-    let l = c.loop-k in
-    sym (key_differs _ _ _ _ _ (l.k - 1) (omega arith) (λ e. c.if-card_word-key.true (c.card_word.ensures ∙ e)))
-
-pub loop-k-preserved : goal.loop-k-preserved
-loop-k-preserved c =
-    let l = c.loop-k in
-    (omega arith, from_word _ _ _ _ l.k (omega arith) (sym c.card_word.ensures ∙ c.if-card_word-key.false) l.invariant.1)
-
-pub returns : goal.returns
-returns c =
-    let l = c.loop-k in
-    rw c.card_word-2.ensures (sym (key_agrees _ _ _ _ _ l.k (omega arith) l.invariant.1))
+pub returns-else-all : goal.returns-else-all
+returns-else-all c =
+    let a = c.args in
+    let e : (k : ℕ) × (k < serial_words) × (word_agrees (shape_in a.h) a.w.now a.i a.key k ≡ false) = search (rules, ranges) in
+    c.if-all.false ∙ sym (key_unlike _ _ _ _ _ e)

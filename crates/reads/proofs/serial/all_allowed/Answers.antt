@@ -1,24 +1,13 @@
--- `serial::all_allowed` meets its contract. The loop's invariant: all bytes are allowed exactly if those that are left are.
-use mathlib.Core.Path.{sym, ◌∙◌}
-use native.Mathlib.Omega.{arith}
+-- `serial::all_allowed` meets its contract: std's test of all elements is the model's.
+use mathlib.Core.Path.{◌∙◌}
+use Rattle.std.proofs.Common.{rules, tests}
+use Rattle.std.proofs.lemmas.Iterator.{YieldsList-from_slice}
+use Rattle.std.proofs.lemmas.Iterator.Search.{all_from_yields_List}
 use Rattle.model.specs.Serial.{allowed}
-use Rattle.model.proofs.Lists.{all_stop, all_on, all_end}
+use Rattle.reads.proofs.Rows.{list_all_is}
 use Rattle.reads.proofs.serial.all_allowed.Goals as goal
-
-pub returns-then-not-is_allowed : goal.returns-then-not-is_allowed
-returns-then-not-is_allowed c =
-    let l = c.args.bytes.now in
-    let d = c.is_allowed in
-    sym (all_stop allowed l _ (omega arith) (sym d.ensures ∙ c.if-not-is_allowed.true))
-    ∙ c.loop-i.invariant
-
-pub loop-i-preserved : goal.loop-i-preserved
-loop-i-preserved c =
-    let l = c.args.bytes.now in
-    let d = c.is_allowed in
-    all_on allowed l _ (omega arith) (sym d.ensures ∙ c.if-not-is_allowed.false) ∙ c.loop-i.invariant
 
 pub returns : goal.returns
 returns c =
-    let l = c.args.bytes.now in
-    sym (all_end allowed l c.loop-i.i (omega arith)) ∙ c.loop-i.invariant
+    let xs = c.args.bytes.now in
+    all_from_yields_List allowed _ _ c.all.result c.all.ensures.ran (YieldsList-from_slice xs cc) (λ x b q k. search (rules, tests)) ∙ list_all_is allowed xs

@@ -1,36 +1,31 @@
--- `serial::valid_serial` meets its contract: with a length within 1 to 16 the serial is valid where the bytes up to the length are allowed and
--- those behind it are zero, and the two parts are lent on as they stand.
-use mathlib.Core.Path.{sym, ap, ◌∙◌}
-use Prim.Native.Nat.{◌-◌}
+-- `serial::valid_serial` meets its contract: its three tests are those of `valid_is`, and the two parts are lent on as they stand.
+use mathlib.Core.Path.{◌≡◌, sym, ◌∙◌}
 use native.Mathlib.Omega.{arith}
-use lib.Dec.{eqb}
-use lib.ListN.{drop, length-drop}
-use lib.Seq.{length-take-le, take_all}
-use Rattle.model.specs.Lists.{all}
+use borrow.Author.Rules.{rules}
+use Rattle.model.specs.Lists.{between}
 use Rattle.model.specs.Serial.{most_bytes}
 use Rattle.reads.proofs.Rows.{and_rest, and_fails}
-use Rattle.reads.proofs.SerialLaws.{valid_parts, short_invalid, long_invalid}
+use Rattle.reads.proofs.SerialLaws.{valid_is}
+use Rattle.reads.proofs.serial.valid_serial.Goals.{then-contains, else-contains}
 use Rattle.reads.proofs.serial.valid_serial.Goals as goal
 
-pub returns-then-len-lt1 : goal.returns-then-len-lt1
-returns-then-len-lt1 c = sym (short_invalid c.args.serial c.args.len (omega arith))
+pub returns-then-all_allowed : goal.returns-then-all_allowed
+unfolding between
+returns-then-all_allowed c =
+    let e : c.contains.result ≡ between 1 most_bytes c.args.len = search rules in
+    elim c.if-contains.branch [
+      | then-contains w ↦
+          c.all_zero.ensures
+          ∙ sym (valid_is _ _ (omega arith) ∙ and_rest _ (and_rest _ (sym e ∙ w.if-contains.true) ∙ sym w.all_allowed.ensures ∙ sym w.value-is ∙ c.if-all_allowed.true))
+      | else-contains w ↦ cc
+    ]
 
-pub returns-then-len-gt-SERIAL : goal.returns-then-len-gt-SERIAL
-returns-then-len-gt-SERIAL c = sym (long_invalid c.args.serial c.args.len (omega arith) (omega arith))
-
-pub slice_bounds-all_allowed-end : goal.slice_bounds-all_allowed-end
-slice_bounds-all_allowed-end c = let a = c.args in sym (length-take-le a.len a.serial (omega arith))
-
-pub returns-then-not-all_allowed : goal.returns-then-not-all_allowed
-returns-then-not-all_allowed c =
-    let a = c.args in
-    let e = sym c.all_allowed.ensures ∙ c.if-not-all_allowed.true in
-    sym (valid_parts a.serial a.len (omega arith) (omega arith) (omega arith) ∙ and_fails _ e)
-
-pub returns : goal.returns
-returns c =
-    let a = c.args in
-    let b = c.all_allowed in
-    let e = sym b.ensures ∙ c.if-not-all_allowed.false in
-    let z = take_all (most_bytes - a.len) (drop a.len a.serial) (omega (arith, length-drop a.len a.serial)) in
-    c.all_zero.ensures ∙ ap (all (eqb 0)) z ∙ sym (valid_parts a.serial a.len (omega arith) (omega arith) (omega arith) ∙ and_rest _ e)
+pub returns-else-all_allowed : goal.returns-else-all_allowed
+unfolding between
+returns-else-all_allowed c =
+    let e : c.contains.result ≡ between 1 most_bytes c.args.len = search rules in
+    let f = c.if-all_allowed.false in
+    elim c.if-contains.branch [
+      | then-contains w ↦ f ∙ sym (valid_is _ _ (omega arith) ∙ and_fails _ (and_rest _ (sym e ∙ w.if-contains.true) ∙ sym w.all_allowed.ensures ∙ sym w.value-is ∙ f))
+      | else-contains w ↦ f ∙ sym (valid_is _ _ (omega arith) ∙ and_fails _ (and_fails _ (sym e ∙ w.if-contains.false)))
+    ]

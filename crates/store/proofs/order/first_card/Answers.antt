@@ -3,8 +3,5 @@ use mathlib.Core.Path.{◌∙◌}
 use Rattle.store.proofs.OrderLaws.{first_place}
 use Rattle.store.proofs.order.first_card.Goals as goal
 
-pub from_bucket-requires : goal.from_bucket-requires
-from_bucket-requires c = c.requires
-
 pub returns : goal.returns
 returns c = c.from_bucket.ensures ∙ first_place _

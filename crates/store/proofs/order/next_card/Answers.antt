@@ -29,6 +29,3 @@ pub returns : goal.returns
 returns c =
     let p = c.requires in
     record { next_is = λ n l e. c.from_bucket.ensures ∙ next_none p.0 p.1 l e c.card_word-cell.ensures c.if-cell-ne0.false }
-
-pub from_bucket-requires : goal.from_bucket-requires
-from_bucket-requires c = let p = c.requires in (p.0, p.1)

@@ -4,11 +4,8 @@ use mathlib.Core.List.{List, ◌∷◌}
 use Prim.Native.Nat.{ℕ, ◌+◌}
 use native.Mathlib.Omega.{arith}
 use lib.ListN.{length}
-use Rattle.reads.proofs.AlongLaws.{along_start, along_from, along_to, along_less, along_below, along_next, along_end}
+use Rattle.reads.proofs.AlongLaws.{along_from, along_to, along_below, along_next, along_end}
 use Rattle.store.proofs.plans.chain_len.Goals as goal
-
-pub loop-i-init : goal.loop-i-init
-loop-i-init c = along_start (λ l. 0 + length l) c.requires.1 (omega arith)
 
 pub overflow_add-n : goal.overflow_add-n
 overflow_add-n c = omega (arith, along_below c.loop-i.invariant c.loop-i-test.true)
@@ -17,9 +14,6 @@ pub card_word-i-requires : goal.card_word-i-requires
 card_word-i-requires c =
     let l = c.loop-i in
     (c.requires.0, along_from l.invariant c.loop-i-test.true, along_to l.invariant c.loop-i-test.true, omega (arith, c.requires.0.room))
-
-pub loop-i-smaller : goal.loop-i-smaller
-loop-i-smaller c = omega (arith, along_less c.loop-i.invariant c.loop-i-test.true)
 
 -- one more is counted, and one fewer is left
 counted : (n : ℕ) (x : ℕ) (l : List ℕ) → n + length (x ∷ l) ≡ n + 1 + length l

@@ -17,9 +17,6 @@ returns-then-not-valid_serial c =
 valid : (c : Else-not-valid_serial) → valid_serial c.args.serial c.args.len ≡ true
 valid c = sym c.valid_serial.ensures ∙ c.if-not-valid_serial.false
 
-pub find-spot-requires : goal.find-spot-requires
-find-spot-requires c = (c.requires, valid c)
-
 pub returns-then-is_some : goal.returns-then-is_some
 returns-then-is_some c =
     rw c.refuse.ensures

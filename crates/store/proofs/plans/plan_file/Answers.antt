@@ -29,9 +29,6 @@ returns-then-not-valid_fault c =
 valid_pair : (c : Else-not-valid_fault) → valid_fault c.args.day c.args.code ≡ true
 valid_pair c = sym c.valid_fault.ensures ∙ c.if-not-valid_fault.false
 
-pub find-spot-requires : goal.find-spot-requires
-find-spot-requires c = (c.requires, valid (goal.at.find-spot-requires c).Else-not-valid_serial)
-
 pub returns-in_default : goal.returns-in_default
 returns-in_default c =
     rw c.refuse.ensures

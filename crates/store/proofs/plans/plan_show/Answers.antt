@@ -6,7 +6,3 @@ use Rattle.store.proofs.plans.plan_show.Goals as goal
 pub returns-then-not-valid_serial : goal.returns-then-not-valid_serial
 returns-then-not-valid_serial c =
     rw c.into.ensures (pairs_invalid _ _ _ (sym c.valid_serial.ensures ∙ c.if-not-valid_serial.true) _)
-
-pub plan_pairs-requires : goal.plan_pairs-requires
-plan_pairs-requires c =
-    (c.requires, sym c.valid_serial.ensures ∙ c.if-not-valid_serial.false)

@@ -8,10 +8,6 @@ pub returns-then-not-valid_serial : goal.returns-then-not-valid_serial
 returns-then-not-valid_serial c =
     rw c.into.ensures (withdraw_invalid _ _ _ (sym c.valid_serial.ensures ∙ c.if-not-valid_serial.true) _)
 
-pub plan_pairs-requires : goal.plan_pairs-requires
-plan_pairs-requires c =
-    (c.requires, sym c.valid_serial.ensures ∙ c.if-not-valid_serial.false)
-
 pub returns-in_err-plan : goal.returns-in_err-plan
 returns-in_err-plan c =
     let (y, e, q) = err_from_is_err_and {Q = λ y. y ≡ c.in_err-plan.field-0.0} c.from_residual.result c.from_residual.ensures.1 in

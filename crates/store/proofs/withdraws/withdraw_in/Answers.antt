@@ -20,10 +20,6 @@ plan c = c.in-Ok.ensures.with_room c.args.room.now refl
 pub put_history-requires : goal.put_history-requires
 put_history-requires c = (c.requires, withdraw_holds _ c.requires _ _ _ (plan (goal.at.put_history-requires c).In-Ok))
 
-pub make_withdraw-requires : goal.make_withdraw-requires
-make_withdraw-requires c =
-    (c.requires, record { bytes = c.args.serial; n = c.args.len; room = c.args.room.now; plan = plan (goal.at.make_withdraw-requires c).In-Ok })
-
 pub returns-in-Ok : goal.returns-in-Ok
 returns-in-Ok c =
     let p = plan (goal.at.returns-in-Ok c).In-Ok in

@@ -95,19 +95,19 @@ fill_head-requires c =
 pub fill_cells-requires : goal.fill_cells-requires
 fill_cells-requires c =
     let p = (numbers (shape_by c.args.s) c.requires.0 c.segments_at-segments.ensures c.cards_at-base.ensures c.faults_at-behind.ensures c.card_width-width.ensures).0 in
-    ((numbers (shape_by c.args.s) c.requires.0 c.segments_at-segments.ensures c.cards_at-base.ensures c.faults_at-behind.ensures c.card_width-width.ensures).1, mid_laid c.cards_at-base.result c.faults_at-behind.result (c.faults_at-behind.result - c.cards_at-base.result) (with_segments (shape_by c.args.s) c.requires.0 _ _ _ _ c.segments_at-segments.ensures c.cards_at-base.ensures c.faults_at-behind.ensures c.card_width-width.ensures c.args.words.now c.requires.1 _ _ c.fill_head.ensures c.clear.ensures) p.high refl ∙ p.cells)
+    ((numbers (shape_by c.args.s) c.requires.0 c.segments_at-segments.ensures c.cards_at-base.ensures c.faults_at-behind.ensures c.card_width-width.ensures).1, mid_laid c.cards_at-base.result c.faults_at-behind.result (c.faults_at-behind.result - c.cards_at-base.result) (with_segments (shape_by c.args.s) c.requires.0 _ _ _ _ c.segments_at-segments.ensures c.cards_at-base.ensures c.faults_at-behind.ensures c.card_width-width.ensures c.args.words.now c.requires.1 _ _ c.fill_head.ensures (c.fill.ensures.after (λ y e. e))) p.high refl ∙ p.cells)
 
 pub fill_cells-requires-2 : goal.fill_cells-requires-2
 fill_cells-requires-2 c =
     let p = (numbers (shape_by c.args.s) c.requires.0 c.segments_at-segments.ensures c.cards_at-base.ensures c.faults_at-behind.ensures c.card_width-width.ensures).0 in
-    let r = with_cards (shape_by c.args.s) c.requires.0 _ _ _ _ c.segments_at-segments.ensures c.cards_at-base.ensures c.faults_at-behind.ensures c.card_width-width.ensures c.args.words.now c.requires.1 _ _ _ c.fill_head.ensures c.clear.ensures c.fill_cells.ensures in
+    let r = with_cards (shape_by c.args.s) c.requires.0 _ _ _ _ c.segments_at-segments.ensures c.cards_at-base.ensures c.faults_at-behind.ensures c.card_width-width.ensures c.args.words.now c.requires.1 _ _ _ c.fill_head.ensures (c.fill.ensures.after (λ y e. e)) c.fill_cells.ensures in
     (lit< tt, mid_laid c.faults_at-behind.result (length_for (shape_by c.args.s)) _ r (le_refl _) (ap (λ (m : ℕ). m - c.faults_at-behind.result) r.long) ∙ p.rest)
 
 pub returns : goal.returns
 returns c =
     let p = (numbers (shape_by c.args.s) c.requires.0 c.segments_at-segments.ensures c.cards_at-base.ensures c.faults_at-behind.ensures c.card_width-width.ensures).0 in
     let sh = shape_by c.args.s in
-    let r = with_cards (shape_by c.args.s) c.requires.0 _ _ _ _ c.segments_at-segments.ensures c.cards_at-base.ensures c.faults_at-behind.ensures c.card_width-width.ensures c.args.words.now c.requires.1 _ _ _ c.fill_head.ensures c.clear.ensures c.fill_cells.ensures in
+    let r = with_cards (shape_by c.args.s) c.requires.0 _ _ _ _ c.segments_at-segments.ensures c.cards_at-base.ensures c.faults_at-behind.ensures c.card_width-width.ensures c.args.words.now c.requires.1 _ _ _ c.fill_head.ensures (c.fill.ensures.after (λ y e. e)) c.fill_cells.ensures in
     laid_whole
     (lay c.faults_at-behind.result (length_for sh) _ r _ _ c.fill_cells-2.ensures p.high (le_refl _) (ap (λ (m : ℕ). m - c.faults_at-behind.result) r.long)
     (cells_length fault_width c.args.s.faults c.args.s.faults (lit< tt) ∙ sym p.rest))
@@ -127,14 +127,14 @@ slice_bounds-fill_head-end c = in_all (numbers (shape_by c.args.s) c.requires.0 
 pub offset_bounds-words-segments : goal.offset_bounds-words-segments
 offset_bounds-words-segments c = (numbers (shape_by c.args.s) c.requires.0 c.segments_at-segments.ensures c.cards_at-base.ensures c.faults_at-behind.ensures c.card_width-width.ensures).0.head_fits
 
-pub slice_bounds-clear-count : goal.slice_bounds-clear-count
-slice_bounds-clear-count c = (numbers (shape_by c.args.s) c.requires.0 c.segments_at-segments.ensures c.cards_at-base.ensures c.faults_at-behind.ensures c.card_width-width.ensures).0.low
+pub slice_bounds-fill-count : goal.slice_bounds-fill-count
+slice_bounds-fill-count c = (numbers (shape_by c.args.s) c.requires.0 c.segments_at-segments.ensures c.cards_at-base.ensures c.faults_at-behind.ensures c.card_width-width.ensures).0.low
 
-pub slice_bounds-clear-start : goal.slice_bounds-clear-start
-slice_bounds-clear-start c = (numbers (shape_by c.args.s) c.requires.0 c.segments_at-segments.ensures c.cards_at-base.ensures c.faults_at-behind.ensures c.card_width-width.ensures).0.low
+pub slice_bounds-fill-start : goal.slice_bounds-fill-start
+slice_bounds-fill-start c = (numbers (shape_by c.args.s) c.requires.0 c.segments_at-segments.ensures c.cards_at-base.ensures c.faults_at-behind.ensures c.card_width-width.ensures).0.low
 
-pub slice_bounds-clear-end : goal.slice_bounds-clear-end
-slice_bounds-clear-end c = in_all (numbers (shape_by c.args.s) c.requires.0 c.segments_at-segments.ensures c.cards_at-base.ensures c.faults_at-behind.ensures c.card_width-width.ensures).0.table_in (with_head (shape_by c.args.s) c.requires.0 _ _ _ _ c.segments_at-segments.ensures c.cards_at-base.ensures c.faults_at-behind.ensures c.card_width-width.ensures c.args.words.now c.requires.1 _ c.fill_head.ensures).long
+pub slice_bounds-fill-end : goal.slice_bounds-fill-end
+slice_bounds-fill-end c = in_all (numbers (shape_by c.args.s) c.requires.0 c.segments_at-segments.ensures c.cards_at-base.ensures c.faults_at-behind.ensures c.card_width-width.ensures).0.table_in (with_head (shape_by c.args.s) c.requires.0 _ _ _ _ c.segments_at-segments.ensures c.cards_at-base.ensures c.faults_at-behind.ensures c.card_width-width.ensures c.args.words.now c.requires.1 _ c.fill_head.ensures).long
 
 pub offset_bounds-words-base : goal.offset_bounds-words-base
 offset_bounds-words-base c = (numbers (shape_by c.args.s) c.requires.0 c.segments_at-segments.ensures c.cards_at-base.ensures c.faults_at-behind.ensures c.card_width-width.ensures).0.table_fits
@@ -146,16 +146,16 @@ pub slice_bounds-fill_cells-start : goal.slice_bounds-fill_cells-start
 slice_bounds-fill_cells-start c = (numbers (shape_by c.args.s) c.requires.0 c.segments_at-segments.ensures c.cards_at-base.ensures c.faults_at-behind.ensures c.card_width-width.ensures).0.mid
 
 pub slice_bounds-fill_cells-end : goal.slice_bounds-fill_cells-end
-slice_bounds-fill_cells-end c = in_all (numbers (shape_by c.args.s) c.requires.0 c.segments_at-segments.ensures c.cards_at-base.ensures c.faults_at-behind.ensures c.card_width-width.ensures).0.high (with_segments (shape_by c.args.s) c.requires.0 _ _ _ _ c.segments_at-segments.ensures c.cards_at-base.ensures c.faults_at-behind.ensures c.card_width-width.ensures c.args.words.now c.requires.1 _ _ c.fill_head.ensures c.clear.ensures).long
+slice_bounds-fill_cells-end c = in_all (numbers (shape_by c.args.s) c.requires.0 c.segments_at-segments.ensures c.cards_at-base.ensures c.faults_at-behind.ensures c.card_width-width.ensures).0.high (with_segments (shape_by c.args.s) c.requires.0 _ _ _ _ c.segments_at-segments.ensures c.cards_at-base.ensures c.faults_at-behind.ensures c.card_width-width.ensures c.args.words.now c.requires.1 _ _ c.fill_head.ensures (c.fill.ensures.after (λ y e. e))).long
 
 pub offset_bounds-words-behind : goal.offset_bounds-words-behind
 offset_bounds-words-behind c = (numbers (shape_by c.args.s) c.requires.0 c.segments_at-segments.ensures c.cards_at-base.ensures c.faults_at-behind.ensures c.card_width-width.ensures).0.cells_fit
 
 pub slice_bounds-fill_cells-count-2 : goal.slice_bounds-fill_cells-count-2
-slice_bounds-fill_cells-count-2 c = in_all (numbers (shape_by c.args.s) c.requires.0 c.segments_at-segments.ensures c.cards_at-base.ensures c.faults_at-behind.ensures c.card_width-width.ensures).0.high (with_cards (shape_by c.args.s) c.requires.0 _ _ _ _ c.segments_at-segments.ensures c.cards_at-base.ensures c.faults_at-behind.ensures c.card_width-width.ensures c.args.words.now c.requires.1 _ _ _ c.fill_head.ensures c.clear.ensures c.fill_cells.ensures).long
+slice_bounds-fill_cells-count-2 c = in_all (numbers (shape_by c.args.s) c.requires.0 c.segments_at-segments.ensures c.cards_at-base.ensures c.faults_at-behind.ensures c.card_width-width.ensures).0.high (with_cards (shape_by c.args.s) c.requires.0 _ _ _ _ c.segments_at-segments.ensures c.cards_at-base.ensures c.faults_at-behind.ensures c.card_width-width.ensures c.args.words.now c.requires.1 _ _ _ c.fill_head.ensures (c.fill.ensures.after (λ y e. e)) c.fill_cells.ensures).long
 
 pub slice_bounds-fill_cells-start-2 : goal.slice_bounds-fill_cells-start-2
-slice_bounds-fill_cells-start-2 c = in_all (numbers (shape_by c.args.s) c.requires.0 c.segments_at-segments.ensures c.cards_at-base.ensures c.faults_at-behind.ensures c.card_width-width.ensures).0.high (with_cards (shape_by c.args.s) c.requires.0 _ _ _ _ c.segments_at-segments.ensures c.cards_at-base.ensures c.faults_at-behind.ensures c.card_width-width.ensures c.args.words.now c.requires.1 _ _ _ c.fill_head.ensures c.clear.ensures c.fill_cells.ensures).long
+slice_bounds-fill_cells-start-2 c = in_all (numbers (shape_by c.args.s) c.requires.0 c.segments_at-segments.ensures c.cards_at-base.ensures c.faults_at-behind.ensures c.card_width-width.ensures).0.high (with_cards (shape_by c.args.s) c.requires.0 _ _ _ _ c.segments_at-segments.ensures c.cards_at-base.ensures c.faults_at-behind.ensures c.card_width-width.ensures c.args.words.now c.requires.1 _ _ _ c.fill_head.ensures (c.fill.ensures.after (λ y e. e)) c.fill_cells.ensures).long
 
 pub slice_bounds-fill_cells-end-2 : goal.slice_bounds-fill_cells-end-2
 slice_bounds-fill_cells-end-2 c = le_refl _

@@ -8,4 +8,4 @@ use Rattle.writer.proofs.fresh.put_first.Goals as goal
 
 pub returns : goal.returns
 returns c =
-    ap (λ (l : List ℕ). set l 0 c.args.first) c.clear.ensures ∙ lead_set _ c.args.first c.requires
+    ap (λ (l : List ℕ). set l 0 c.args.first) (c.fill.ensures.after (λ y e. e)) ∙ lead_set _ c.args.first c.requires

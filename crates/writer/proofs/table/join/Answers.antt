@@ -28,21 +28,21 @@ pub put_bucket-requires : goal.put_bucket-requires
 put_bucket-requires c =
     (sized_same c.requires.read.sized c.link.auto.w, gone (goal.at.put_bucket-requires c).Start)
 
-pub close_bucket-requires : goal.close_bucket-requires
-close_bucket-requires c =
-    (sized_same c.requires.read.sized (c.put_bucket.auto.w ∙ c.link.auto.w), gone (goal.at.close_bucket-requires c).Start)
+pub set_segment-requires : goal.set_segment-requires
+set_segment-requires c =
+    (sized_same c.requires.read.sized (c.put_bucket.auto.w ∙ c.link.auto.w), gone (goal.at.set_segment-requires c).Start)
 
 pub set_state-requires : goal.set_state-requires
 set_state-requires c =
-    omega (arith, c.close_bucket.auto.w, c.put_bucket.auto.w, c.link.auto.w, c.requires.read.sized.room)
+    omega (arith, c.set_segment.auto.w, c.put_bucket.auto.w, c.link.auto.w, c.requires.read.sized.room)
 
 pub shape_of-w : goal.shape_of-w
 shape_of-w c =
-    c.set_state.auto.w ∙ c.close_bucket.auto.w ∙ c.put_bucket.auto.w ∙ c.link.auto.w
+    c.set_state.auto.w ∙ c.set_segment.auto.w ∙ c.put_bucket.auto.w ∙ c.link.auto.w
 
 pub returns : goal.returns
 returns c =
-    join_words_lem c.requires c.low_p-b.ensures c.last_of-k.ensures c.bucket_word-first.ensures c.link.ensures c.put_bucket.ensures c.close_bucket.ensures c.low_maxp.ensures c.set_state.ensures
+    join_words_lem c.requires c.low_p-b.ensures c.last_of-k.ensures c.bucket_word-first.ensures c.link.ensures c.put_bucket.ensures c.set_segment.ensures c.low_maxp.ensures c.set_state.ensures
 
 pub low_p-b-requires : goal.low_p-b-requires
 low_p-b-requires c = c.requires.some

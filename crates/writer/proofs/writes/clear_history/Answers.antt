@@ -5,6 +5,9 @@ use native.Mathlib.Omega.{arith}
 use Rattle.reads.proofs.CellLaws.{sized_same}
 use mathlib.Core.Path.{sym, ◌∙◌}
 use Rattle.reads.proofs.EndsLaws.{ends_here}
+use lib.Dec.{lit<}
+use Rattle.model.specs.Layout.{to_day, to_code}
+use Rattle.writer.proofs.WriteLaws.{fault_put}
 use Rattle.writer.proofs.ClearLaws.{clear_start, clear_less, clear_next, clear_end}
 use Rattle.writer.proofs.writes.clear_history.Goals.{In-loop-i}
 use Rattle.writer.proofs.writes.clear_history.Goals as goal
@@ -16,21 +19,21 @@ cell i = ends_here i.loop-i.invariant.ends i.loop-i-test.true
 pub fault_word-next-requires : goal.fault_word-next-requires
 fault_word-next-requires c = let h = cell c in (c.loop-i.invariant.sized, h.0, h.1, omega arith)
 
-pub put_fault-requires : goal.put_fault-requires
-put_fault-requires c = let h = cell (goal.at.put_fault-requires c).In-loop-i in (c.loop-i.invariant.sized, h.0, h.1, omega arith)
+pub put-requires : goal.put-requires
+put-requires c = let h = cell (goal.at.put-requires c).In-loop-i in fault_put c.loop-i.invariant.sized h.0 h.1 to_day (lit< tt)
 
-pub put_fault-requires-in-loop-i : goal.put_fault-requires-in-loop-i
-put_fault-requires-in-loop-i c =
-    let h = cell (goal.at.put_fault-requires-in-loop-i c).In-loop-i in
-    (sized_same c.loop-i.invariant.sized c.put_fault.auto.w, h.0, h.1, omega arith)
+pub put-requires-in-loop-i : goal.put-requires-in-loop-i
+put-requires-in-loop-i c =
+    let h = cell (goal.at.put-requires-in-loop-i c).In-loop-i in
+    fault_put (sized_same c.loop-i.invariant.sized c.put.auto.w) h.0 h.1 to_code (lit< tt)
 
 pub loop-i-smaller : goal.loop-i-smaller
 loop-i-smaller c =
-    clear_less c.loop-i.invariant c.loop-i-test.true c.fault_word-next.ensures c.put_fault.ensures c.put_fault-in-loop-i.ensures
+    clear_less c.loop-i.invariant c.loop-i-test.true c.fault_word-next.ensures c.put.ensures c.put-in-loop-i.ensures
 
 pub loop-i-preserved : goal.loop-i-preserved
 loop-i-preserved c =
-    clear_next c.loop-i.invariant c.loop-i-test.true c.fault_word-next.ensures c.put_fault.ensures c.put_fault-in-loop-i.ensures
+    clear_next c.loop-i.invariant c.loop-i-test.true c.fault_word-next.ensures c.put.ensures c.put-in-loop-i.ensures
 
 pub loop-i-init : goal.loop-i-init
 loop-i-init c = clear_start c.requires.0 c.requires.1

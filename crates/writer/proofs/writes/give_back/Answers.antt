@@ -3,29 +3,30 @@
 use mathlib.Core.Path.{refl, ◌∙◌}
 use lib.Dec.{lit<}
 use lib.ListN.{length-set}
-use Rattle.model.specs.Layout.{free_faults_at}
+use Rattle.model.specs.Layout.{free_faults_at, to_next}
 use Rattle.reads.specs.Cells.{shape_in}
 use Rattle.reads.proofs.CellLaws.{head_in_lem, sized_same}
 use Rattle.reads.proofs.EndsLaws.{ends_last}
+use Rattle.writer.proofs.WriteLaws.{fault_put}
 use Rattle.writer.proofs.ClearLaws.{give_none, give_is}
 use Rattle.writer.proofs.writes.give_back.Goals as goal
 
 pub returns-then-first-eq0 : goal.returns-then-first-eq0
 returns-then-first-eq0 c = let a = c.args in give_none (shape_in a.h) a.w.now a.first a.last c.if-first-eq0.true
 
-pub put_fault-requires : goal.put_fault-requires
-put_fault-requires c =
+pub put-requires : goal.put-requires
+put-requires c =
     let p = c.requires in
     let h = ends_last p.1 c.if-first-eq0.false p.2 in
-    (sized_same p.0 c.clear_history.auto.w, h.0, h.1, lit< tt)
+    fault_put (sized_same p.0 c.clear_history.auto.w) h.0 h.1 to_next (lit< tt)
 
 pub shape_of-w : goal.shape_of-w
 shape_of-w c =
-    length-set c.put_fault.new.w free_faults_at _ ∙ c.put_fault.auto.w ∙ c.clear_history.auto.w
+    length-set c.put.new.w free_faults_at _ ∙ c.put.auto.w ∙ c.clear_history.auto.w
 
 pub returns : goal.returns
 returns c =
-    give_is c.requires.0 c.args.first c.args.last c.if-first-eq0.false c.clear_history.ensures c.put_fault.ensures
+    give_is c.requires.0 c.args.first c.args.last c.if-first-eq0.false c.clear_history.ensures c.put.ensures
 
 pub bounds-w-8 : goal.bounds-w-8
 bounds-w-8 c = head_in_lem c.requires.0 free_faults_at (lit< tt) refl
@@ -34,4 +35,4 @@ pub clear_history-requires : goal.clear_history-requires
 clear_history-requires c = let p = c.requires in (p.0, p.1)
 
 pub bounds-w-8-2 : goal.bounds-w-8-2
-bounds-w-8-2 c = head_in_lem c.requires.0 free_faults_at (lit< tt) (c.put_fault.auto.w ∙ c.clear_history.auto.w)
+bounds-w-8-2 c = head_in_lem c.requires.0 free_faults_at (lit< tt) (c.put.auto.w ∙ c.clear_history.auto.w)

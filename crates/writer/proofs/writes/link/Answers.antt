@@ -6,8 +6,7 @@ use lib.Dec.{lit<}
 use lib.ListN.{set}
 use Rattle.model.specs.Layout.{to_next}
 use Rattle.reads.specs.Cells.{shape_in}
-use Rattle.reads.proofs.CellLaws.{word_in}
-use Rattle.writer.proofs.WriteLaws.{link_bucket, link_card}
+use Rattle.writer.proofs.WriteLaws.{card_put, link_bucket, link_card}
 use Rattle.writer.proofs.writes.link.Goals as goal
 
 pub returns-then-i-eq0 : goal.returns-then-i-eq0
@@ -18,16 +17,16 @@ returns-then-i-eq0 c =
 pub returns-else-i-eq0 : goal.returns-else-i-eq0
 returns-else-i-eq0 c =
     let a = c.args in
-    c.put_card.ensures ∙ ap (λ (m : ℕ). set a.w.now m a.v) (link_card (shape_in a.h) a.b c.if-i-eq0.false)
+    c.put.ensures ∙ ap (λ (m : ℕ). set a.w.now m a.v) (link_card (shape_in a.h) a.b c.if-i-eq0.false)
 
 pub put_bucket-requires : goal.put_bucket-requires
 put_bucket-requires c = let p = c.requires in (p.0, p.1)
 
-pub put_card-requires : goal.put_card-requires
-put_card-requires c = let p = c.requires in (p.0, pos_of_ne-zero c.if-i-eq0.false, p.2, word_in p.0 to_next (lit< tt))
+pub put-requires : goal.put-requires
+put-requires c = let p = c.requires in card_put p.0 (pos_of_ne-zero c.if-i-eq0.false) p.2 to_next (lit< tt)
 
 pub shape_of-w-then-i-eq0 : goal.shape_of-w-then-i-eq0
 shape_of-w-then-i-eq0 c = c.put_bucket.auto.w
 
 pub shape_of-w-else-i-eq0 : goal.shape_of-w-else-i-eq0
-shape_of-w-else-i-eq0 c = c.put_card.auto.w
+shape_of-w-else-i-eq0 c = c.put.auto.w

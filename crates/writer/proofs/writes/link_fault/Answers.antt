@@ -2,24 +2,24 @@
 use native.Mathlib.Nat.{pos_of_ne-zero}
 use borrow.Author.Tests.{eq-eqb, ne_eqb}
 use lib.Dec.{lit<}
-use Rattle.model.specs.Layout.{to_first}
-use Rattle.reads.proofs.CellLaws.{word_in}
+use Rattle.model.specs.Layout.{to_next, to_first}
+use Rattle.writer.proofs.WriteLaws.{card_put, fault_put}
 use Rattle.writer.proofs.writes.link_fault.Goals as goal
 
 pub returns-then-last-eq0 : goal.returns-then-last-eq0
-returns-then-last-eq0 c = rw (eq-eqb _ 0 c.if-last-eq0.true) c.put_card.ensures
+returns-then-last-eq0 c = rw (eq-eqb _ 0 c.if-last-eq0.true) c.put.ensures
 
 pub returns-else-last-eq0 : goal.returns-else-last-eq0
-returns-else-last-eq0 c = rw (ne_eqb _ 0 c.if-last-eq0.false) c.put_fault.ensures
+returns-else-last-eq0 c = rw (ne_eqb _ 0 c.if-last-eq0.false) c.put-else-last-eq0.ensures
 
-pub put_card-requires : goal.put_card-requires
-put_card-requires c = let p = c.requires in (p.0, p.2, p.3, word_in p.0 to_first (lit< tt))
+pub put-requires : goal.put-requires
+put-requires c = let p = c.requires in card_put p.0 p.2 p.3 to_first (lit< tt)
 
-pub put_fault-requires : goal.put_fault-requires
-put_fault-requires c = let p = c.requires in (p.0, pos_of_ne-zero c.if-last-eq0.false, p.1, lit< tt)
+pub put-requires-else-last-eq0 : goal.put-requires-else-last-eq0
+put-requires-else-last-eq0 c = let p = c.requires in fault_put p.0 (pos_of_ne-zero c.if-last-eq0.false) p.1 to_next (lit< tt)
 
 pub shape_of-w-then-last-eq0 : goal.shape_of-w-then-last-eq0
-shape_of-w-then-last-eq0 c = c.put_card.auto.w
+shape_of-w-then-last-eq0 c = c.put.auto.w
 
 pub shape_of-w-else-last-eq0 : goal.shape_of-w-else-last-eq0
-shape_of-w-else-last-eq0 c = c.put_fault.auto.w
+shape_of-w-else-last-eq0 c = c.put-else-last-eq0.auto.w

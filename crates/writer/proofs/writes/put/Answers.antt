@@ -1,0 +1,26 @@
+-- `writes::put` meets its contract: the part ends within the words, and cell i stands whole in it.
+use native.Mathlib.Omega.{arith}
+use Rattle.writer.proofs.WriteLaws.{part_end, cell_room, word_lent}
+use Rattle.writer.proofs.writes.put.Goals as goal
+
+pub overflow_mul-end : goal.overflow_mul-end
+overflow_mul-end g c =
+    omega (arith, part_end c.requires.0 _ c.start-start.ensures c.width-width.ensures c.limit.ensures, c.requires.0.room)
+
+pub overflow_add-end : goal.overflow_add-end
+overflow_add-end g c =
+    omega (arith, part_end c.requires.0 _ c.start-start.ensures c.width-width.ensures c.limit.ensures, c.requires.0.room)
+
+pub slice_bounds-set_word-end : goal.slice_bounds-set_word-end
+slice_bounds-set_word-end g c = part_end c.requires.0 _ c.start-start.ensures c.width-width.ensures c.limit.ensures
+
+pub set_word-requires : goal.set_word-requires
+set_word-requires g c =
+    let p = c.requires in
+    let width = c.width-width.ensures in
+    (p.1, cell_room p.0 _ c.start-start.ensures width c.limit.ensures _ p.2, omega (arith, p.3, width))
+
+pub returns : goal.returns
+returns g c =
+    let p = c.requires in
+    word_lent p.0 _ c.start-start.ensures c.width-width.ensures c.limit.ensures _ _ p.1 p.2 _ _ p.3 c.set_word.ensures
