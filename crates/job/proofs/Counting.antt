@@ -1,7 +1,7 @@
 -- What the code adds to the tally is what the model counts: for a line that is done by what it told, and nothing for one that is refused.
 -- Assumes nothing.
-use Rattle.std.proofs.Common.{◌≡◌, Some, None}
-use borrow.Author.Tests.{ne_eqb}
+use Rattle.std.proofs.Common.{arith, ◌≡◌, Some, None}
+use borrow.Author.Tests.{ne_eqb, le-ltb}
 use Rattle.model.specs.Model.{Store, size}
 use Rattle.model.specs.Calls.{Step}
 use Rattle.model.specs.Job.{Line, bad, enter, show, withdraw, file, Tally, counted}
@@ -22,6 +22,6 @@ module _ (t : Tally) (s : Store) (r : Step) where
   pub counted_done : (l : Line) (q : Request) → Told l (Some q) → r.answer.number ≡ 0 → counted t s l r ≡ counted_by t (Some q) (size s) (size r.store) r.answer.comparisons
   counted_done l q e z = rw e (counted_line l z)
 
-  pub counted_refused : (l : Line) → (r.answer.number ≡ 0 → ⊥) → counted t s l r ≡ counted_by t None (size s) (size r.store) r.answer.comparisons
+  pub counted_refused : (l : Line) → (r.answer.number ≡ 0 → ⊥) → size r.store ≡ size s → counted t s l r ≡ counted_by t None 0 0 r.answer.comparisons
   unfolding counted counted_by entering withdrawing filing
-  counted_refused l n = rw (ne_eqb r.answer.number 0 n)
+  counted_refused l n e = rw (ne_eqb r.answer.number 0 n, e, le-ltb (size s) (size s) (omega arith))

@@ -26,6 +26,7 @@ use Rattle.std.proofs.Common.{Some, None}
 use Rattle.job.specs.Told.{Told, held, request_in}
 use Rattle.job.specs.Turns.{asked, listing, turn_of}
 use Rattle.job.specs.declared.fields.Request.{Request}
+use Rattle.job.specs.declared.fields.Request.TheVariants.{Enter, Withdraw, File, Show}
 
 -- the step of a line is what is told of it, asked
 told_bad : (q : Request) → Some q ≡ None → ⊥
@@ -77,6 +78,15 @@ good_line s g (enter f) = good_act s g (Runs.enter (padded f) (length f))
 good_line s g (show f) = good_act s g (Runs.show (padded f) (length f) enough)
 good_line s g (withdraw f) = good_act s g (Runs.withdraw (padded f) (length f) enough)
 good_line s g (file f day code) = good_act s g (Runs.file (padded f) (length f) day code)
+
+good_asked : (s : Store) → Good s → (q : Request) → Good (asked s q).store
+good_asked s g (Enter x) = good_act s g (Runs.enter x.bytes x.len)
+good_asked s g (Withdraw x) = good_act s g (Runs.withdraw x.bytes x.len enough)
+good_asked s g (File x f) = good_act s g (Runs.file x.bytes x.len f.day f.code)
+good_asked s g (Show x) = good_act s g (Runs.show x.bytes x.len enough)
+
+pub asked_sound : (w : List ℕ) → sound w ≡ true → (q : Request) → sound (encode (asked (decode w) q).store) ≡ true
+asked_sound w ok q = good_sound _ (good_asked (decode w) (sound_good w ok).0 q)
 
 module _ (w : List ℕ) (ok : sound w ≡ true) (l : Line) where
   pub line_sound : sound (encode (step_of (decode w) l).store) ≡ true

@@ -1,5 +1,5 @@
 -- One line of a job on a store in words: what is asked, what is listed, and what the line leaves.
-use Rattle.std.specs.Prelude.{◌≡◌, Bool, true, false, cond, List, ℕ, ◌+◌, ◌*◌, ◌≤◌, ltb, length, Option, Some, None, is_some, IfSome, Result, Ok, Err}
+use Rattle.std.specs.Prelude.{◌≡◌, Bool, true, false, cond, List, ℕ, ◌+◌, ◌*◌, ◌≤◌, ltb, length, Option, Some, is_some, IfSome, Result, Ok, Err}
 use Rattle.std.proofs.lemmas.List.Edits.{sets}
 use Rattle.model.specs.Model.{Store}
 use Rattle.model.specs.Shape.{faults_ever}
@@ -44,15 +44,6 @@ abbrev pub PlansLine : List ℕ → List ℕ → Result Ahead Answer → Type 0
 PlansLine w x (Ok a) = Told (line_of x) (Some a.request) × GoesAhead w a
 PlansLine w x (Err answer) = Refuses (step_of (decode w) (line_of x)).answer answer
 
--- the answer of a line, and what was asked if it goes ahead
-abbrev pub answer_in : Result Ahead Answer → Answer
-answer_in (Ok a) = a.plan.answer
-answer_in (Err answer) = answer
-
-abbrev pub done_in : Result Ahead Answer → Option Request
-done_in (Ok a) = Some a.request
-done_in (Err answer) = None
-
 -- a show and a withdraw list pairs
 abbrev pub listing : Request → Bool
 listing (Enter x) = false
@@ -65,16 +56,6 @@ pub record Lists (s : Store) (q : Request) (count : ℕ) (room : List ℕ) : Typ
   pub count_is : count ≡ cond (listing q) (asked s q).answer.faults 0
   pub few : count ≤ faults_ever
   pub text_is : pair_text count room ≡ pair_text count (asked s q).room
-
--- and no pair of what is refused
-abbrev pub ListsPlan : Store → Result Ahead Answer → ℕ → List ℕ → Type 0
-ListsPlan s (Ok a) count room = Lists s a.request count room
-ListsPlan s (Err answer) count room = count ≡ 0
-
--- the words left follow what goes ahead; what is refused leaves them
-abbrev pub MakesPlan : List ℕ → Result Ahead Answer → List ℕ → Type 0
-MakesPlan w (Ok a) words = words ≡ encode (asked (decode w) a.request).store
-MakesPlan w (Err answer) words = words ≡ w
 
 -- what a line leaves: whether its answer fitted, the words, the output and where its text ends, the tally
 pub record Turn : Type 0 where

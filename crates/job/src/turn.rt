@@ -1,10 +1,13 @@
 // One line of a job on a store known to be sound. Its whole answer is known before a word is changed, so a line whose answer does not fit
 // has no effect.
-ghost use Rattle.std.specs.Prelude.{◌≡◌, true, ◌+◌, ◌*◌, ◌≤◌, length, IfOk};
+ghost use Rattle.std.specs.Prelude.{◌≡◌, true, ◌+◌, ◌*◌, ◌^◌, ◌≤◌, ◌<◌, ℕ, List, length, Some, MatchBool};
 ghost use Rattle.model.specs.Layout.{decode, encode, sound};
 ghost use Rattle.model.specs.Shape.{faults_ever};
+ghost use Rattle.model.specs.Job.{line_of, step_of};
+ghost use Rattle.store.specs.Plans.{Refuses};
+ghost use Rattle.job.specs.Told.{Told};
 ghost use Rattle.job.specs.Counts.{tally_of};
-ghost use Rattle.job.specs.Turns.{asked, PlansRequest, GoesAhead, PlansLine, answer_in, done_in, ListsPlan, MakesPlan, turn_of, Turns};
+ghost use Rattle.job.specs.Turns.{asked, PlansRequest, GoesAhead, PlansLine, Lists, turn_of, Turns};
 
 use super::fields::Request;
 use super::tally::Tally;
@@ -53,36 +56,13 @@ fn plan_line(words: &[u32], line: &[u8]) -> Result<Ahead, Answer>
     Ok(Ahead { request, plan })
 }
 
-// The answer of a line, which its plan knows.
-fn answer_in(plan: Result<Ahead, Answer>) -> Answer
-    ensures { result ≡ answer_in plan }
-{
-    match plan {
-        Ok(ahead) => ahead.plan.answer,
-        Err(answer) => answer,
-    }
-}
-
-// What a line asked for, if it goes ahead.
-fn done_in(plan: Result<Ahead, Answer>) -> Option<Request>
-    ensures { result ≡ done_in plan }
-{
-    match plan {
-        Ok(ahead) => Some(ahead.request),
-        Err(_) => None,
-    }
-}
-
-// Writes the pairs that a show or withdraw lists if it goes ahead into the room, and says how many there are; any other line lists none.
-fn list_pairs(words: &[u32], plan: Result<Ahead, Answer>, room: &mut [u32]) -> u32
+// Writes the pairs that a show or withdraw lists into the room, and says how many there are; any other request lists none.
+fn list_pairs(words: &[u32], ahead: Ahead, room: &mut [u32]) -> u32
     requires sound { sound words.now ≡ true }
-    requires ahead { IfOk plan (GoesAhead words.now) }
+    requires ahead { GoesAhead words.now ahead }
     requires long { 2 * faults_ever ≤ length room.old }
-    ensures { ListsPlan (decode words.now) plan result room.new }
+    ensures { Lists (decode words.now) ahead.request result room.new }
 {
-    let Ok(ahead) = plan else {
-        return 0;
-    };
     match ahead.request {
         Request::Withdraw(_) | Request::Show(_) => {
             store::put_history(words, ahead.plan, room);
@@ -106,15 +86,61 @@ fn make_change(words: &mut [u32], ahead: Ahead)
     }
 }
 
-// Makes the change of a line, if it goes ahead; one that is refused leaves the words as they are.
-fn make_if_ahead(words: &mut [u32], plan: Result<Ahead, Answer>)
-    requires sound { sound words.old ≡ true }
-    requires ahead { IfOk plan (GoesAhead words.old) }
-    ensures { MakesPlan words.old plan words.new }
+// Whether an answer of this length fits the output from `at` on.
+fn fits(out: &[u8], at: usize, long: usize) -> bool
+    requires { at + long < 2 ^ 64 }
+    ensures { MatchBool result (at + long ≤ length out.now) (length out.now < at + long) }
 {
-    if let Ok(ahead) = plan {
-        make_change(words, ahead);
+    at + long <= out.len()
+}
+
+// A line that goes ahead, with its answer from `at` on. Where the answer does not fit, nothing changes but the room.
+fn go_ahead(
+    words: &mut [u32],
+    room: &mut [u32],
+    ahead: Ahead,
+    out: &mut [u8],
+    at: usize,
+    tally: Tally,
+) -> Option<Turned>
+    requires sound { sound words.old ≡ true }
+    requires ahead { GoesAhead words.old ahead }
+    requires long { 2 * faults_ever ≤ length room.old }
+    requires inside { at ≤ length out.old }
+    ensures { (x : List ℕ) → Told (line_of x) (Some ahead.request) → Turns (turn_of words.old x out.old at (tally_of tally)) at result words.new out.new }
+{
+    let count = list_pairs(words, ahead, room);
+    let answer = ahead.plan.answer;
+    let long = answers::answer_len(answer, count, room);
+    if !fits(out, at, long) {
+        return None;
     }
+    let before = store::buckets(words);
+    make_change(words, ahead);
+    let after = store::buckets(words);
+    let end = answers::put_answer(out, at, answer, count, room);
+    let tally = tally::count(
+        tally,
+        Some(ahead.request),
+        before,
+        after,
+        answer.comparisons,
+    );
+    Some(Turned { end, tally })
+}
+
+// A line that is refused, with its answer from `at` on, if that fits.
+fn stay(answer: Answer, out: &mut [u8], at: usize, tally: Tally) -> Option<Turned>
+    requires { at ≤ length out.old }
+    ensures { (w x : List ℕ) → sound w ≡ true → Refuses (step_of (decode w) (line_of x)).answer answer → Turns (turn_of w x out.old at (tally_of tally)) at result w out.new }
+{
+    let long = answers::answer_len(answer, 0, &[]);
+    if !fits(out, at, long) {
+        return None;
+    }
+    let end = answers::put_answer(out, at, answer, 0, &[]);
+    let tally = tally::count(tally, None, 0, 0, answer.comparisons);
+    Some(Turned { end, tally })
 }
 
 // One line, with its answer from `at` on. Where the answer does not fit, nothing changes but the room.
@@ -129,17 +155,8 @@ pub fn turn(
     requires { (sound words.old ≡ true) × (2 * faults_ever ≤ length room.old) × (at ≤ length out.old) }
     ensures { Turns (turn_of words.old line.now out.old at (tally_of tally)) at result words.new out.new }
 {
-    let plan = plan_line(words, line);
-    let count = list_pairs(words, plan, room);
-    let answer = answer_in(plan);
-    let long = answers::answer_len(answer, count, room);
-    if out.len() < at + long {
-        return None;
+    match plan_line(words, line) {
+        Ok(ahead) => go_ahead(words, room, ahead, out, at, tally),
+        Err(answer) => stay(answer, out, at, tally),
     }
-    let before = store::buckets(words);
-    make_if_ahead(words, plan);
-    let after = store::buckets(words);
-    let end = answers::put_answer(out, at, answer, count, room);
-    let tally = tally::count(tally, done_in(plan), before, after, answer.comparisons);
-    Some(Turned { end, tally })
 }

@@ -13,13 +13,16 @@ fn digit(d: u32) -> u8
     letters::DIGIT_ZERO + d as u8
 }
 
-// How many digits a number has in decimal: at most ten. By comparing; most numbers of an answer are short, and dividing takes longer.
+// How many digits a number has in decimal: at most ten. By comparing, since dividing takes longer; most numbers of an answer have one digit, so
+// that is tried first.
 pub fn decimal_len(n: u32) -> usize
     ensures { Digits n result }
 {
+    if n < 10 {
+        return 1;
+    }
     match n {
-        0..=9 => 1,
-        10..=99 => 2,
+        0..=99 => 2,
         100..=999 => 3,
         1_000..=9_999 => 4,
         10_000..=99_999 => 5,

@@ -10,7 +10,12 @@ use super::letters;
 fn find(text: &[u8], sep: u8) -> Option<usize>
     ensures { result ≡ position (λ b. b == sep) text.now }
 {
-    text.iter().position(|b| *b == sep)
+    for (i, byte) in text.iter().enumerate() {
+        if *byte == sep {
+            return Some(i);
+        }
+    }
+    None
 }
 
 // What stands before the first separator, and what stands behind it; none where the text has none.

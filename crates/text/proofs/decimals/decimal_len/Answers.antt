@@ -8,11 +8,11 @@ use Rattle.text.proofs.decimals.decimal_len.Goals as goal
 has : (k n : ℕ) → 10 ^ k ≤ n → n < 10 ^ suc k → n < 2 ^ 32 → k ≤ 9 → Digits n (suc k)
 has k n l h b m = record { is = sym (decimal_long k n l h (omega arith)); most = omega arith }
 
-pub returns-in-0-to-9 : goal.returns-in-0-to-9
-returns-in-0-to-9 c = record { is = sym (decimal_one c.args.n (omega arith)); most = omega arith }
+pub returns-then-n-lt10 : goal.returns-then-n-lt10
+returns-then-n-lt10 c = record { is = sym (decimal_one c.args.n (omega arith)); most = omega arith }
 
-pub returns-in-10-to-99 : goal.returns-in-10-to-99
-returns-in-10-to-99 c = has 1 c.args.n (omega arith) (omega arith) (omega arith) (omega arith)
+pub returns-in-0-to-99 : goal.returns-in-0-to-99
+returns-in-0-to-99 c = has 1 c.args.n (omega arith) (omega arith) (omega arith) (omega arith)
 
 pub returns-in-100-to-999 : goal.returns-in-100-to-999
 returns-in-100-to-999 c = has 2 c.args.n (omega arith) (omega arith) (omega arith) (omega arith)
