@@ -6,6 +6,7 @@ pub mod Histories
 pub mod CardsNoted
 pub mod RunLaws
 pub mod TextLaws
+pub mod ReportFew
 pub mod ReportCases
 pub mod OneOutcome
 pub mod ProgramReport

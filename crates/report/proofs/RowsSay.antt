@@ -21,7 +21,7 @@ use Rattle.model.proofs.Sums.{bit}
 use Rattle.report.specs.declared.rows.Row.{Row}
 use Rattle.report.specs.Rows.{rows_long, blank, row_of, cards_after, earliest_after, latest_after, note_row, noted, note_history, note_all, codes_fit}
 use Rattle.report.specs.Texts.{row_line, row_lines, text_of}
-use Rattle.report.specs.declared.rows.Totals.{Totals}
+use Rattle.report.specs.declared.totals.Totals.{Totals}
 use Rattle.report.proofs.RowLaws.{noted_long, noted_here, noted_other, history_long, codes_first, codes_parts, row_in, blank_long, blank_row}
 
 -- the row of one code

@@ -21,7 +21,7 @@ use Rattle.model.specs.Report.{most_stores, pieces, run_sound, most_need, need_o
 use Rattle.model.proofs.Sums.{total_append}
 use Rattle.model.proofs.ReportCalls.{pieces_count}
 use Rattle.report.specs.declared.rows.Row.{Row}
-use Rattle.report.specs.declared.rows.Totals.{Totals}
+use Rattle.report.specs.declared.totals.Totals.{Totals}
 use Rattle.report.specs.Rows.{blank, note_all, Takes, Noted}
 use Rattle.report.specs.Runs.{Clean, NotedAll}
 use Rattle.report.proofs.RowLaws.{histories_append, takes_less, takes_all, takes_blank}
@@ -164,13 +164,13 @@ module _ {run ns given : List ℕ} {most : ℕ} {rest : List ℕ} {i : ℕ} (a :
 
 -- the histories
 
-pub record Adding (run ns : List ℕ) (rows : List Row) (t : Totals) (rest : List ℕ) (i : ℕ) : Type 0 where
+pub record Adding (run ns : List ℕ) (rows : List Row) (cards entries : ℕ) (rest : List ℕ) (i : ℕ) : Type 0 where
   pub sum : total (λ n. n) (drop i ns) ≡ length rest
   pub sounds : all sound (stores_left rest ns i) ≡ true
   pub takes : Takes rows (total length (all_histories (stores_left rest ns i)))
-  pub same : note_all rows t.cards (all_histories (stores_left rest ns i)) ≡ note_all blank 0 (all_histories (pieces run ns))
-  pub cards : t.cards + length (all_histories (stores_left rest ns i)) ≡ length (all_histories (pieces run ns))
-  pub entries : t.entries + total length (all_histories (stores_left rest ns i)) ≡ total length (all_histories (pieces run ns))
+  pub same : note_all rows cards (all_histories (stores_left rest ns i)) ≡ note_all blank 0 (all_histories (pieces run ns))
+  pub cards_are : cards + length (all_histories (stores_left rest ns i)) ≡ length (all_histories (pieces run ns))
+  pub entries_are : entries + total length (all_histories (stores_left rest ns i)) ≡ total length (all_histories (pieces run ns))
 
 -- a sound run has sound stores alone
 pub stores_sound : (run ns : List ℕ) → run_sound run ns ≡ true → all sound (pieces run ns) ≡ true
@@ -187,7 +187,7 @@ bounded run ns e l =
     let s = stores_sound run ns e in
     record { cards = omega (arith, run_cards (pieces run ns) s, pieces_count run ns); entries = omega (arith, run_faults (pieces run ns) s, pieces_count run ns) }
 
-pub adding_start : (run ns : List ℕ) (rows : List Row) → run_sound run ns ≡ true → length ns ≤ most_stores → rows ≡ blank → Adding run ns rows (record { cards = 0; entries = 0 }) run 0
+pub adding_start : (run ns : List ℕ) (rows : List Row) → run_sound run ns ≡ true → length ns ≤ most_stores → rows ≡ blank → Adding run ns rows 0 0 run 0
 unfolding run_sound
 adding_start run ns rows e l z =
     let b = both (eqb (total (λ n. n) ns) (length run)) (all sound (pieces run ns)) e in
@@ -196,19 +196,19 @@ adding_start run ns rows e l z =
       sounds = b.1;
       takes = rw z (takes_blank _ (omega (arith, (bounded run ns e l).entries)));
       same = rw z;
-      cards = omega arith;
-      entries = omega arith;
+      cards_are = omega arith;
+      entries_are = omega arith;
     }
 
-module _ {run ns : List ℕ} {rows : List Row} {t : Totals} {rest : List ℕ} {i : ℕ} (a : Adding run ns rows t rest i) where
-  pub adding_end : length ns ≤ i → NotedAll run ns t rows
+module _ {run ns : List ℕ} {rows : List Row} {cards entries : ℕ} {rest : List ℕ} {i : ℕ} (a : Adding run ns rows cards entries rest i) where
+  pub adding_end : length ns ≤ i → {t : Totals} → t.cards ≡ cards → t.entries ≡ entries → NotedAll run ns t rows
   unfolding all_histories note_all pieces
-  adding_end h =
+  adding_end h {t} c n =
       let z : drop i ns ≡ [] = drop_of_length-le ns h in
       record {
-        rows_are = sym (ap (λ (l : List ℕ). note_all rows t.cards (all_histories (pieces rest l))) z) ∙ a.same;
-        cards_are = omega (arith, ap (λ (l : List ℕ). length (all_histories (pieces rest l))) z, a.cards);
-        entries_are = omega (arith, ap (λ (l : List ℕ). total length (all_histories (pieces rest l))) z, a.entries);
+        rows_are = sym (ap (λ (l : List ℕ). note_all rows cards (all_histories (pieces rest l))) z) ∙ a.same;
+        cards_are = omega (arith, c, ap (λ (l : List ℕ). length (all_histories (pieces rest l))) z, a.cards_are);
+        entries_are = omega (arith, n, ap (λ (l : List ℕ). total length (all_histories (pieces rest l))) z, a.entries_are);
       }
 
   module _ (h : i < length ns) where
@@ -237,16 +237,22 @@ module _ {run ns : List ℕ} {rows : List Row} {t : Totals} {rest : List ℕ} {i
     pub adding_takes : Takes rows (total length (histories_in store))
     adding_takes = takes_less rows _ _ takes_on (omega arith)
 
-    pub adding_next : {rows' : List Row} {t' : Totals} → Noted store t rows t' rows' → Adding run ns rows' t' (drop here rest) (i + 1)
-    adding_next {rows'} {t'} n =
+    -- with the entries of the store at hand the totals stay few
+    pub adding_fits : total length (all_histories (pieces run ns)) ≤ faults_ever * most_stores → entries + total length (histories_in store) ≤ most_stores * faults_ever
+    adding_fits few = omega (arith, few, a.entries_are, ap (total length) left_on_lem, total_append length (histories_in store) (all_histories behind))
+
+    pub adding_next : {rows' : List Row} {t t' : Totals} → t.cards ≡ cards → t.entries ≡ entries → Noted store t rows t' rows' → Adding run ns rows' t'.cards t'.entries (drop here rest) (i + 1)
+    adding_next {rows'} {t} {t'} c m n =
         let p : i + 1 ≡ suc i = omega arith in
+        let r : rows' ≡ note_all rows cards (histories_in store) = n.rows_are ∙ ap (λ (k : ℕ). note_all rows k (histories_in store)) c in
+        let k : t'.cards ≡ cards + length (histories_in store) = omega (arith, n.cards_are, c) in
         record {
           sum = rw p (omega (arith, ap (total (λ n. n)) (lengths_on rest ns i h), length-drop here rest, a.sum));
           sounds = rw p sounds_on.1;
-          takes = rw (p, n.rows_are) (takes_all rows t.cards _ (histories_in store) takes_on (sound_codes store sounds_on.0));
+          takes = rw (p, r) (takes_all rows cards _ (histories_in store) takes_on (sound_codes store sounds_on.0));
           same =
-              rw (p, n.rows_are, n.cards_are)
-              (sym (histories_append rows t.cards (histories_in store) (all_histories behind)) ∙ sym (ap (note_all rows t.cards) left_on_lem) ∙ a.same);
-          cards = rw p (omega (arith, n.cards_are, ap length left_on_lem, length-append (histories_in store) (all_histories behind), a.cards));
-          entries = rw p (omega (arith, n.entries_are, ap (total length) left_on_lem, total_append length (histories_in store) (all_histories behind), a.entries));
+              rw (p, r, k)
+              (sym (histories_append rows cards (histories_in store) (all_histories behind)) ∙ sym (ap (note_all rows cards) left_on_lem) ∙ a.same);
+          cards_are = rw p (omega (arith, k, ap length left_on_lem, length-append (histories_in store) (all_histories behind), a.cards_are));
+          entries_are = rw p (omega (arith, n.entries_are, m, ap (total length) left_on_lem, total_append length (histories_in store) (all_histories behind), a.entries_are));
         }

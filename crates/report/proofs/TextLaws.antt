@@ -10,6 +10,7 @@ use native.Mathlib.Omega.{arith}
 use lib.ListN.{length, drop, length-append}
 use lib.Seq.{sets-eq}
 use borrow.Author.Tests.{eq-eqb, ne_eqb, le-ltb}
+use Rattle.model.specs.Lists.{total}
 use Rattle.model.specs.Serial.{most_code}
 use Rattle.model.specs.Text.{lf, space, digits, decimal}
 use Rattle.model.specs.Report.{numbers_line, rate_line, total_lines}
@@ -20,7 +21,7 @@ use Rattle.report.specs.Rows.{row_of}
 use Rattle.store.specs.Leaves.{wrote_of}
 use Rattle.std.proofs.Common.{Ok}
 use Rattle.report.specs.Texts.{row_line, row_lines, text_of, PutsReport}
-use Rattle.report.specs.declared.rows.Totals.{Totals}
+use Rattle.report.specs.declared.totals.Totals.{Totals}
 
 -- a line is its first number, the others with a space before each, and LF
 
@@ -83,14 +84,26 @@ decimal_few : (n : ℕ) → length (decimal n) ≤ 20
 unfolding decimal
 decimal_few n = digits_few 20 n []
 
-line_few : (a : ℕ) (ns : List ℕ) → length (numbers_line (a ∷ ns)) ≤ 21 * length (a ∷ ns)
+-- a line is as long as its numbers, with a byte behind each
+pub line_long : (a : ℕ) (ns : List ℕ) → length (numbers_line (a ∷ ns)) ≡ total (λ n. length (decimal n) + 1) (a ∷ ns)
 unfolding numbers_line
-line_few a [] = omega (arith, decimal_few a, length-append (decimal a) (lf ∷ []))
-line_few a (b ∷ ns) = omega (arith, decimal_few a, line_few b ns, length-append (decimal a) (space ∷ numbers_line (b ∷ ns)))
+line_long a [] = omega (arith, length-append (decimal a) (lf ∷ []))
+line_long a (b ∷ ns) = omega (arith, line_long b ns, length-append (decimal a) (space ∷ numbers_line (b ∷ ns)))
 
 row_few : (k : ℕ) (r : Row) → length (row_line k r) ≤ 105
 unfolding row_line
-row_few k r = by_cases (eqb r.entries 0) (λ t. rw t (omega arith)) (λ t. rw t (line_few k (r.entries ∷ r.cards ∷ r.earliest ∷ r.latest ∷ [])))
+row_few k r =
+    by_cases (eqb r.entries 0)
+    (λ t. rw t (omega arith))
+    (λ t. rw t (omega (
+      arith,
+      line_long k (r.entries ∷ r.cards ∷ r.earliest ∷ r.latest ∷ []),
+      decimal_few k,
+      decimal_few r.entries,
+      decimal_few r.cards,
+      decimal_few r.earliest,
+      decimal_few r.latest,
+    )))
 
 rows_few : (rows : List Row) (k n : ℕ) → length (row_lines rows k n) ≤ 105 * n
 unfolding row_lines
@@ -101,7 +114,10 @@ rows_few rows k (suc n) =
 rate_few : (cards entries : ℕ) → length (rate_line cards entries) ≤ 42
 unfolding rate_line
 rate_few cards entries =
-    by_cases (eqb cards 0) (λ t. rw t (omega arith)) (λ t. rw t (line_few (1000 * entries / cards) (1000 * entries % cards ∷ [])))
+    let all = 1000 * entries in
+    by_cases (eqb cards 0)
+    (λ t. rw t (omega arith))
+    (λ t. rw t (omega (arith, line_long (all / cards) (all % cards ∷ []), decimal_few (all / cards), decimal_few (all % cards))))
 
 pub text_few : (rows : List Row) (t : Totals) → length (text_of rows t) < 2 ^ 32
 unfolding text_of total_lines
@@ -113,8 +129,10 @@ text_few rows t =
       length-append (numbers_line (t.cards ∷ [])) (numbers_line (t.entries ∷ []) ++ rate),
       length-append (numbers_line (t.entries ∷ [])) rate,
       rows_few rows 1 most_code,
-      line_few t.cards [],
-      line_few t.entries [],
+      line_long t.cards [],
+      line_long t.entries [],
+      decimal_few t.cards,
+      decimal_few t.entries,
       rate_few t.cards t.entries,
     )
 

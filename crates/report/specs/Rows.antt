@@ -7,7 +7,7 @@ use Rattle.model.specs.Plain.{Slip, slip}
 use Rattle.model.specs.Report.{histories_in}
 use Rattle.reads.specs.Chains.{faults_from}
 use Rattle.report.specs.declared.rows.Row.{Row}
-use Rattle.report.specs.declared.rows.Totals.{Totals}
+use Rattle.report.specs.declared.totals.Totals.{Totals}
 
 -- how many rows there are: one for each code and one for 0, which no fault has
 abbrev pub rows_long : ℕ

@@ -5,7 +5,7 @@ use Rattle.model.specs.Calls.{cleaned}
 use Rattle.model.specs.Report.{pieces, all_histories}
 use Rattle.report.specs.Rows.{blank, note_all}
 use Rattle.report.specs.declared.rows.Row.{Row}
-use Rattle.report.specs.declared.rows.Totals.{Totals}
+use Rattle.report.specs.declared.totals.Totals.{Totals}
 
 -- a scratch of n bytes and more, the first n of which are zero
 pub record Clean (n : ℕ) (scratch : List ℕ) : Type 0 where

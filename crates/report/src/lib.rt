@@ -10,6 +10,7 @@ ghost use Rattle.store.specs.Leaves.{wrote_of};
 mod rows; // rows.rt: a row for each code, in which every fault is noted once
 mod runs; // runs.rt: stores one behind another in one run of words
 mod texts; // texts.rt: the lines of the codes and the totals
+mod totals; // totals.rt: the cards and the entries of the stores so far
 
 use rows::Row;
 use store::Refusal;

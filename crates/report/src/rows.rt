@@ -1,8 +1,8 @@
 // A row for each code: every fault of every history is noted once, in the row of its code.
-ghost use Rattle.std.specs.Prelude.{◌≡◌, true, ◌+◌, ◌<◌, length};
+ghost use Rattle.std.specs.Prelude.{◌≡◌, true, ◌+◌, ◌*◌, ◌≤◌, ◌<◌, length};
 ghost use Rattle.model.specs.Lists.{total};
 ghost use Rattle.model.specs.Layout.{sound};
-ghost use Rattle.model.specs.Report.{histories_in};
+ghost use Rattle.model.specs.Report.{most_stores, histories_in};
 ghost use Rattle.model.specs.Meaning.{next_fault};
 ghost use Rattle.model.specs.Bounds.{cards_ever};
 ghost use Rattle.model.specs.Shape.{faults_ever};
@@ -10,6 +10,7 @@ ghost use Rattle.reads.specs.Cells.{shape_in, Sized};
 ghost use Rattle.reads.specs.Chains.{Ends};
 ghost use Rattle.report.specs.Rows.{slips_from, note_row, note_history, codes_fit, word_top, Takes, Noted};
 
+use crate::totals::Totals;
 use store::Header;
 
 // The highest code.
@@ -63,16 +64,9 @@ impl Row {
     }
 }
 
-// The cards and the entries of the stores so far.
-#[derive(Clone, Copy)]
-pub struct Totals {
-    pub cards: u32,
-    pub entries: u32,
-}
-
 // Notes the history from fault cell `first` on, of card n. The next cell is read before a fault is noted, and in `note_store` the next card
 // before a history is: a processor then has it sooner.
-fn note_history(w: &[u32], h: Header, first: u32, rows: &mut [Row], n: u32)
+fn note_history(w: &[u32], h: Header, first: u32, rows: &mut [Row; ROWS], n: u32)
     requires { Sized w.now h × Ends h.faults (next_fault (shape_in h) w.now) first × (codes_fit (slips_from (shape_in h) w.now first) ≡ true) × Takes rows.old (length (slips_from (shape_in h) w.now first)) }
     ensures { rows.new ≡ note_history rows.old n (slips_from (shape_in h) w.now first) }
 {
@@ -89,8 +83,8 @@ fn note_history(w: &[u32], h: Header, first: u32, rows: &mut [Row], n: u32)
 }
 
 // Notes the histories of all cards of a sound store. The cards of the stores before it are counted, and numbered, already.
-pub fn note_store(w: &[u32], rows: &mut [Row], sum: Totals) -> Totals
-    requires { (sound w.now ≡ true) × Takes rows.old (total length (histories_in w.now)) × (sum.cards + cards_ever < word_top) × (sum.entries + faults_ever < word_top) }
+pub fn note_store(w: &[u32], rows: &mut [Row; ROWS], sum: Totals) -> Totals
+    requires { (sound w.now ≡ true) × Takes rows.old (total length (histories_in w.now)) × (sum.cards + cards_ever < word_top) × (sum.entries + total length (histories_in w.now) ≤ most_stores * faults_ever) }
     ensures { Noted w.now sum rows.old result rows.new }
 {
     let h = store::header_of(w);

@@ -4,7 +4,8 @@ ghost use Rattle.model.specs.Report.{most_stores, run_sound, need_of};
 ghost use Rattle.report.specs.Rows.{blank};
 ghost use Rattle.report.specs.Runs.{Clean, NotedAll};
 
-use crate::rows::{self, Row, Totals};
+use crate::rows::{self, ROWS, Row};
+use crate::totals::Totals;
 
 // The most stores of a report.
 pub const MOST_STORES: usize = 8;
@@ -44,7 +45,7 @@ pub fn all_sound(words: &[u32], lengths: &[u32], scratch: &mut [u8]) -> bool
 }
 
 // Notes the histories of all stores of a run in blank rows.
-pub fn note_all(words: &[u32], lengths: &[u32], rows: &mut [Row]) -> Totals
+pub fn note_all(words: &[u32], lengths: &[u32], rows: &mut [Row; ROWS]) -> Totals
     requires { (run_sound words.now lengths.now ≡ true) × (length lengths.now ≤ most_stores) × (rows.old ≡ blank) }
     ensures { NotedAll words.now lengths.now result rows.new }
 {

@@ -6,9 +6,10 @@ ghost use Rattle.model.specs.Report.{numbers_line, rate_line, total_lines};
 ghost use Rattle.text.specs.Decimals.{Puts};
 ghost use Rattle.store.specs.Leaves.{wrote_of};
 ghost use Rattle.report.specs.Rows.{rows_long};
-ghost use Rattle.report.specs.Texts.{row_line, row_lines, text_of, most_rated, PutsReport};
+ghost use Rattle.report.specs.Texts.{row_line, row_lines, text_of, PutsReport};
 
-use crate::rows::{MOST_CODE, Row, Totals};
+use crate::rows::{MOST_CODE, ROWS, Row};
+use crate::totals::Totals;
 use store::Refusal;
 use text::letters;
 use text::sink::{self, Count, Sink, Writer};
@@ -41,8 +42,8 @@ fn put_row<S: Sink>(sink: &mut S, code: u32, row: Row)
 }
 
 // The lines of all codes.
-fn put_rows<S: Sink>(sink: &mut S, rows: &[Row])
-    requires { (length rows.now ≡ rows_long) × (length (row_lines rows.now 1 most_code) ≤ S.room sink.old) }
+fn put_rows<S: Sink>(sink: &mut S, rows: &[Row; ROWS])
+    requires { length (row_lines rows.now 1 most_code) ≤ S.room sink.old }
     ensures { S.Takes sink.old (row_lines rows.now 1 most_code) sink.new }
 {
     for code in 1..=MOST_CODE {
@@ -52,7 +53,7 @@ fn put_rows<S: Sink>(sink: &mut S, rows: &[Row])
 
 // Entries per thousand cards, whole part and remainder; none with no cards.
 fn put_rate<S: Sink>(sink: &mut S, t: Totals)
-    requires { (t.entries ≤ most_rated) × (length (rate_line t.cards t.entries) ≤ S.room sink.old) }
+    requires { length (rate_line t.cards t.entries) ≤ S.room sink.old }
     ensures { S.Takes sink.old (rate_line t.cards t.entries) sink.new }
 {
     if t.cards != 0 {
@@ -63,7 +64,7 @@ fn put_rate<S: Sink>(sink: &mut S, t: Totals)
 
 // All cards, all entries and the rate.
 fn put_totals<S: Sink>(sink: &mut S, t: Totals)
-    requires { (t.entries ≤ most_rated) × (length (total_lines t.cards t.entries) ≤ S.room sink.old) }
+    requires { length (total_lines t.cards t.entries) ≤ S.room sink.old }
     ensures { S.Takes sink.old (total_lines t.cards t.entries) sink.new }
 {
     put_line(sink, t.cards, &[]);
@@ -72,8 +73,8 @@ fn put_totals<S: Sink>(sink: &mut S, t: Totals)
 }
 
 // The whole text.
-fn put_text<S: Sink>(sink: &mut S, rows: &[Row], t: Totals)
-    requires { (length rows.now ≡ rows_long) × (t.entries ≤ most_rated) × (length (text_of rows.now t) ≤ S.room sink.old) }
+fn put_text<S: Sink>(sink: &mut S, rows: &[Row; ROWS], t: Totals)
+    requires { length (text_of rows.now t) ≤ S.room sink.old }
     ensures { S.Takes sink.old (text_of rows.now t) sink.new }
 {
     put_rows(sink, rows);
@@ -81,8 +82,8 @@ fn put_text<S: Sink>(sink: &mut S, rows: &[Row], t: Totals)
 }
 
 // Writes the whole text at the front of an output that has room for it, and gives its length.
-fn write_text(out: &mut [u8], rows: &[Row], t: Totals) -> usize
-    requires { (length rows.now ≡ rows_long) × (t.entries ≤ most_rated) × (length (text_of rows.now t) ≤ length out.old) }
+fn write_text(out: &mut [u8], rows: &[Row; ROWS], t: Totals) -> usize
+    requires { length (text_of rows.now t) ≤ length out.old }
     ensures { Puts out.old 0 (text_of rows.now t) result out.new }
 {
     let mut writer = Writer { out, at: 0 };
@@ -91,8 +92,7 @@ fn write_text(out: &mut [u8], rows: &[Row], t: Totals) -> usize
 }
 
 // The whole text at the front of the output, and its length; nothing where it does not fit.
-pub fn put_report(out: &mut [u8], rows: &[Row], t: Totals) -> Result<u32, Refusal>
-    requires { (length rows.now ≡ rows_long) × (t.entries ≤ most_rated) }
+pub fn put_report(out: &mut [u8], rows: &[Row; ROWS], t: Totals) -> Result<u32, Refusal>
     ensures { PutsReport (text_of rows.now t) out.old (wrote_of result) out.new }
 {
     let mut count = Count { bytes: 0 };

@@ -1,14 +1,12 @@
 -- `report::report_sound` meets its contract: the rows of all histories say what the report says of each code, and the totals are its totals.
-use mathlib.Core.Path.{refl, ap, subst, ◌∙◌}
+use mathlib.Core.Path.{refl, subst}
 use mathlib.Core.List.{List}
 use Prim.Native.Nat.{ℕ}
 use native.Mathlib.Omega.{arith}
-use lib.ListN.{length}
 use Rattle.model.specs.Report.{pieces, all_histories}
 use Rattle.store.specs.Leaves.{wrote_of}
 use Rattle.report.specs.Rows.{blank}
 use Rattle.report.specs.Texts.{PutsReport}
-use Rattle.report.proofs.RowLaws.{histories_long, blank_long}
 use Rattle.report.proofs.RowsSay.{text_is_report}
 use Rattle.report.proofs.SoundRuns.{run_codes}
 use Rattle.report.proofs.RunLaws.{stores_sound, bounded}
@@ -21,7 +19,7 @@ note_all-t-requires c = (c.requires.0, c.requires.1, refl)
 pub put_report-requires : goal.put_report-requires
 put_report-requires c =
     let n = c.note_all-t.ensures in
-    (ap length n.rows_are ∙ histories_long blank 0 _ ∙ blank_long, omega (arith, n.entries_are, (bounded _ _ c.requires.0 c.requires.1).entries))
+    omega (arith, n.entries_are, (bounded _ _ c.requires.0 c.requires.1).entries)
 
 pub returns : goal.returns
 returns c =

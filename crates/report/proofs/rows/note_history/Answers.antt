@@ -3,7 +3,6 @@ use Rattle.std.proofs.Common.{◌≤◌, ap, slice_set, arith}
 use Rattle.reads.proofs.EndsLaws.{ends_here, ends_less}
 use Rattle.report.specs.declared.rows.Row.{Row}
 use Rattle.report.specs.Rows.{row_of, noted}
-use Rattle.report.proofs.RowLaws.{row_in}
 use Rattle.report.proofs.Histories.{noting_end, noting_code, noting_takes, noting_next}
 use Rattle.report.proofs.rows.note_history.Goals.{In-loop-i}
 use Rattle.report.proofs.rows.note_history.Goals as goal
@@ -23,9 +22,7 @@ fault_word-next-requires c = let i = inside (goal.at.fault_word-next-requires c)
 
 -- its code has a row
 pub bounds-rows-code : goal.bounds-rows-code
-bounds-rows-code c =
-    let l = c.loop-i.invariant in
-    row_in c.loop-i.rows c.fault_word-code.result l.takes.long (rw c.fault_word-code.ensures (noting_code l c.loop-i-test.true))
+bounds-rows-code c = omega (arith, c.fault_word-code.ensures, noting_code c.loop-i.invariant c.loop-i-test.true)
 
 -- which takes a fault more
 pub noted-requires : goal.noted-requires

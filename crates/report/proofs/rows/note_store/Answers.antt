@@ -61,3 +61,7 @@ returns c =
       cards_are = omega (arith, e.0, cards_held c.args.w.now);
       entries_are = omega (arith, filed_word c.requires.0 c.header_of-h.ensures, faults_filed c.args.w.now);
     }
+
+pub invariant_of-result : goal.invariant_of-result
+invariant_of-result c =
+    omega (arith, filed_word c.requires.0 c.header_of-h.ensures, faults_filed c.args.w.now, c.requires.3)

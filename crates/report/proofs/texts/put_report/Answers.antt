@@ -4,7 +4,7 @@ use Rattle.report.proofs.TextLaws.{text_few, report_written}
 use Rattle.report.proofs.texts.put_report.Goals as goal
 
 pub put_text-requires : goal.put_text-requires
-put_text-requires c = let t = c.args in (c.requires.0, c.requires.1, omega (arith, text_few t.rows.now t.t))
+put_text-requires c = let t = c.args in omega (arith, text_few t.rows.now t.t)
 
 pub returns : goal.returns
 returns c = report_written _ _ (omega (arith, c.put_text.ensures.bytes_are)) c.write_text.ensures

@@ -13,7 +13,7 @@ put_row-requires g c =
     let rows = c.args.rows.now in
     let k = c.loop-code.code in
     room_first (row_line k (row_of rows k)) (row_lines rows (k + 1) (most_code + 1 - (k + 1)))
-    (left_room g.met.S.Sink.laws _ (rw (rows_turn rows k most_code (omega arith)) at c.loop-code.invariant.1) c.requires.1)
+    (left_room g.met.S.Sink.laws _ (rw (rows_turn rows k most_code (omega arith)) at c.loop-code.invariant.1) c.requires)
 
 pub loop-code-preserved : goal.loop-code-preserved
 unfolding row_of

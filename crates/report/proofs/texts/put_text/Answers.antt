@@ -7,13 +7,13 @@ use Rattle.report.proofs.texts.put_text.Goals as goal
 
 pub put_rows-requires : goal.put_rows-requires
 unfolding text_of
-put_rows-requires g c = let t = c.args in (c.requires.0, room_first (row_lines t.rows.now 1 most_code) (total_lines t.t.cards t.t.entries) c.requires.2)
+put_rows-requires g c = let t = c.args in room_first (row_lines t.rows.now 1 most_code) (total_lines t.t.cards t.t.entries) c.requires
 
 pub put_totals-requires : goal.put_totals-requires
 unfolding text_of
 put_totals-requires g c =
     let t = c.args in
-    (c.requires.1, room_then g.met.S.Sink.laws (row_lines t.rows.now 1 most_code) (total_lines t.t.cards t.t.entries) c.put_rows.ensures c.requires.2)
+    room_then g.met.S.Sink.laws (row_lines t.rows.now 1 most_code) (total_lines t.t.cards t.t.entries) c.put_rows.ensures c.requires
 
 pub returns : goal.returns
 unfolding text_of
