@@ -43,11 +43,14 @@ pub fn put_byte(out: &mut [u8], at: usize, b: u8) -> usize
     at + 1
 }
 
-// A number in decimal at `at`, its last digit first; the place behind it.
+// A number in decimal at `at`, its last digit first; the place behind it. Most numbers of an answer have one digit.
 pub fn put_decimal(out: &mut [u8], at: usize, n: u32) -> usize
     requires { at + length (decimal n) ≤ length out.old }
     ensures { Puts out.old at (decimal n) result out.new }
 {
+    if n < 10 {
+        return put_byte(out, at, digit(n));
+    }
     let end = at + decimal_len(n);
     let mut m = n;
     for i in (at + 1..end).rev() {

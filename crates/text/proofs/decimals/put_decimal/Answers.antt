@@ -7,6 +7,12 @@ use Rattle.text.proofs.DecimalLaws.{decimal_small, decimal_more, decimal_less, d
 use Rattle.text.proofs.Putting.{sets_last}
 use Rattle.text.proofs.decimals.put_decimal.Goals as goal
 
+pub put_byte-requires : goal.put_byte-requires
+put_byte-requires c = omega (arith, decimal_least c.args.n)
+
+pub returns-then-n-lt10 : goal.returns-then-n-lt10
+returns-then-n-lt10 c = rw (decimal_small c.args.n c.if-n-lt10.true, ← c.digit.ensures) c.put_byte.ensures
+
 pub loop-i-init : goal.loop-i-init
 loop-i-init c = record { less = omega arith; next = omega arith; whole = refl }
 
@@ -25,7 +31,7 @@ loop-i-preserved c =
       less = omega arith;
       next = omega arith;
       whole =
-          rw c.digit.ensures
+          rw c.digit-in-loop-i.ensures
           (sets_last (decimal (m / 10)) j.out at (j.i - 1) (48 + m % 10) (omega arith) ∙ ap (sets j.out at) (sym more) ∙ j.invariant.whole);
     }
 
