@@ -43,10 +43,10 @@ pub use withdraws::make_withdraw;
 
 // The cards of a store known to be sound, one after another, and the words of their cells.
 pub use order::{At, first_card, next_card};
-pub use stores::Sound;
 pub use reads::cells::View;
 pub use reads::header::{Header, header_of};
 pub use reads::layout::{FAULTS_HELD_AT, HELD_AT, TO_CODE, TO_DAY, TO_FIRST, TO_NEXT};
+pub use stores::Sound;
 
 // Sets a fresh store for C cards and F faults with the load bounds U and L, whatever the words held: above U cards a bucket the table
 // grows, below L it contracts. Refused are, in this order, a C or F out of range (BadLimits), a U or L out of range (BadBounds) and a wrong

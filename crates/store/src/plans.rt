@@ -195,7 +195,12 @@ pub fn plan_show(store: &Sound, serial: [u8; 16], len: usize, room: usize) -> Re
 }
 
 // Withdraw: as Show, and what it will scan.
-pub fn plan_withdraw(store: &Sound, serial: [u8; 16], len: usize, room: usize) -> Result<Plan, Answer>
+pub fn plan_withdraw(
+    store: &Sound,
+    serial: [u8; 16],
+    len: usize,
+    room: usize,
+) -> Result<Plan, Answer>
     ensures { PlansFor (withdraw_step (decode store.now.view.words.now) serial len) room store.now.view.words.now serial len result }
 {
     if !serial::valid_serial(serial, len) {

@@ -1,7 +1,7 @@
 -- `plans::plan_withdraw` meets its contract: it refuses where Show does, and where it does not, what it will scan stands beside Show's numbers.
 use mathlib.Core.Path.{◌≡◌, sym, ◌∙◌}
 use Rattle.std.proofs.lemmas.Result.{err_from_is_err_and}
-use Rattle.store.proofs.PlanLaws.{plans_header, withdraw_invalid, withdraw_refused, withdraw_accepted}
+use Rattle.store.proofs.PlanLaws.{withdraw_invalid, withdraw_refused, withdraw_accepted}
 use Rattle.store.proofs.plans.plan_withdraw.Goals as goal
 
 pub returns-then-not-valid_serial : goal.returns-then-not-valid_serial
