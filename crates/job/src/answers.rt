@@ -19,6 +19,7 @@ fn put_pair<S: Sink>(sink: &mut S, day: u32, code: u32)
 }
 
 // The pairs of the first `count` faults that the room holds.
+// Kept: what may not change, the clauses of `answer_len` and `put_answer`, which speak of a count and the room, so no slice of the room is passed.
 pub fn put_pairs<S: Sink>(sink: &mut S, count: u32, room: &[u32])
     requires pairs { 2 * count ≤ length room.now }
     requires fits { length (pair_text count room.now) ≤ S.room sink.old }
