@@ -69,6 +69,7 @@ fn card_fits(w: &[u32], h: Header, b: u32, i: u32) -> bool
 }
 
 // What cell i has to be, by the chain that it stands in.
+#[tactic(auto, unfolding(crate::specs::Fits::cell_fits, reads::specs::Cells::limit_of))]
 pub fn cell_fits<P: Part>(w: &[u32], h: Header, chain: Chain, i: u32) -> bool
     requires { Read w.now h × Suits h P.faults chain × (1 ≤ i) × (i ≤ limit_of (shape_in h) P.faults) }
     ensures { result ≡ cell_fits (shape_in h) w.now P.faults chain i }

@@ -45,6 +45,7 @@ pub fn key_at(w: &[u32], h: Header, i: u32) -> [u32; SERIAL_WORDS]
 }
 
 // The sixteen bytes of the card in cell i.
+#[tactic(auto, unfolding(crate::specs::Cells::bytes_at))]
 pub fn bytes_at(w: &[u32], h: Header, i: u32) -> [u8; 16]
     requires { Sized w.now h × (1 ≤ i) × (i ≤ h.cards) }
     ensures { result ≡ bytes_at (shape_in h) w.now i }
