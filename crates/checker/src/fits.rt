@@ -72,6 +72,7 @@ fn card_fits(view: &View, b: u32, i: u32) -> bool
 }
 
 // What cell i has to be, by the chain that it stands in.
+#[tactic(auto, unfolding(crate::specs::Fits::cell_fits, reads::specs::Cells::limit_of))]
 pub fn cell_fits<P: Part>(view: &View, chain: Chain, i: u32) -> bool
     requires { Read view.now.words.now view.now.header × Suits view.now.header P.faults chain × (1 ≤ i) × (i ≤ limit_of (shape_in view.now.header) P.faults) }
     ensures { result ≡ cell_fits (shape_in view.now.header) view.now.words.now P.faults chain i }

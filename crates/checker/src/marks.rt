@@ -22,6 +22,7 @@ pub fn mark(scratch: &mut [u8], k: usize)
 }
 
 // The first n bytes are zero, and the rest is as it was.
+// Kept: a part of the scratch in the place of its n would change a public function, which the store calls and docs/RULES.md names.
 pub fn clear(scratch: &mut [u8], n: usize)
     requires { n ≤ length scratch.old }
     ensures { scratch.new ≡ cleaned n scratch.old }

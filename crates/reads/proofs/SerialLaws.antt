@@ -2,7 +2,7 @@
 -- are zero. And the bytes that are allowed, as a
 -- table of bits from the hyphen on: each byte was looked at (`table_tells`).
 use mathlib.Core.Path.{◌≡◌, refl, sym, ap, ◌∙◌}
-use mathlib.Core.Bool.{Bool, true, false, not, cond, ◌&&◌, ◌||◌}
+use mathlib.Core.Bool.{Bool, true, false, not, cond, ◌&&◌}
 use mathlib.Core.List.{List, [], ◌∷◌}
 use Rattle.std.specs.Int.{w32, from_be_bytes, to_be_bytes}
 use Prim.Native.Nat.{ℕ, suc, ◌-◌, ◌/◌, ◌%◌, ◌^◌, ◌≤◌, ◌<◌, ◌+◌, ◌*◌}
@@ -14,7 +14,7 @@ use borrow.Author.Tests.{eq-eqb, eqb-true}
 use Rattle.model.specs.Lists.{between, all}
 use Rattle.model.specs.Serial.{most_bytes, allowed, serial_ok, valid_serial}
 use Rattle.model.proofs.Lists.{between_is, all_from}
-use Rattle.reads.proofs.Rows.{and_rest, and_fails, or_rest}
+use Rattle.reads.proofs.Rows.{and_rest, and_fails}
 use Rattle.rules.proofs.Tests.{by_cases, both}
 use Rattle.model.specs.Layout.{packed, bytes_of}
 use Rattle.model.proofs.Serials.{serial_is, padded}
@@ -67,12 +67,14 @@ table_tells b l h =
     are_alike (eqb (table / 2 ^ (b - hyphen) % 2) 1) (allowed b)
     (all_from (λ (x : ℕ). alike (eqb (table / 2 ^ (x - hyphen) % 2) 1) (allowed x)) hyphen (suc last_letter - hyphen) refl b l (omega arith))
 
--- bytes are below 2 ^ 8
-pub outside_not_allowed : (b : ℕ) → b < 2 ^ 8 → between hyphen last_letter b ≡ false → allowed b ≡ false
+pub early_not_allowed : (b : ℕ) → b < hyphen → allowed b ≡ false
 unfolding allowed between alike
-outside_not_allowed b h t =
-    let f : ℕ → Bool = λ x. between hyphen last_letter x || alike (allowed x) false in
-    are_alike (allowed b) false (sym (or_rest _ t) ∙ all_from f 0 (2 ^ 8) refl b (omega arith) (omega arith))
+early_not_allowed b h = are_alike (allowed b) false (all_from (λ (x : ℕ). alike (allowed x) false) 0 hyphen refl b (omega arith) h)
+
+-- bytes are below 2 ^ 8
+pub late_not_allowed : (b : ℕ) → last_letter < b → b < 2 ^ 8 → allowed b ≡ false
+unfolding allowed between alike
+late_not_allowed b l h = are_alike (allowed b) false (all_from (λ (x : ℕ). alike (allowed x) false) (suc last_letter) (2 ^ 8 - suc last_letter) refl b l (omega arith))
 
 -- a serial as it is sent
 module _ (bytes : List ℕ) (n : ℕ) (v : valid_serial bytes n ≡ true) where

@@ -42,6 +42,7 @@ pub fn wide_word(w: &[u32], at: usize) -> usize
 }
 
 // The shape that words tell.
+#[tactic(auto, unfolding(model::specs::Layout::shape_of))]
 pub fn shape_of(w: &[u32]) -> Shape
     requires { directory_at ≤ length w.now }
     ensures { shape_by result ≡ shape_of w.now }

@@ -46,6 +46,7 @@ impl<'a> View<'a> {
     }
 
     // The sixteen bytes of the card in cell i.
+    #[tactic(auto, unfolding(crate::specs::Cells::bytes_at))]
     pub fn bytes_at(&self, i: u32) -> [u8; 16]
         requires { (1 ≤ i) × (i ≤ self.now.header.cards) }
         ensures { result ≡ bytes_at (shape_in self.now.header) self.now.words.now i }

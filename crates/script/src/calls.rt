@@ -39,13 +39,7 @@ impl Terms {
     pub fn open(self, words: &mut [u32]) -> u32
         ensures { Opens (open_call words.old (asked self.cards self.faults self.upper self.lower)) result words.new }
     {
-        store::number_of(store::open(
-            words,
-            self.cards,
-            self.faults,
-            self.upper,
-            self.lower,
-        ))
+        store::number_of(store::open(words, self.cards, self.faults, self.upper, self.lower))
     }
 }
 

@@ -2,7 +2,6 @@
 -- what was marked.
 use mathlib.Core.Path.{ap, ◌∙◌}
 use Prim.Native.Nat.{ℕ}
-use native.Mathlib.Omega.{arith}
 use lib.ListN.{drop}
 use Rattle.model.specs.Shape.{need}
 use Rattle.model.specs.Layout.{shape_of}
@@ -22,7 +21,3 @@ returns c =
       d.ok_is ∙ ap (checked a.words.now) e ∙ checked_is_sound a.words.now a.scratch.now c.requires,
       c.clear-2.ensures ∙ cleaned_again m a.scratch.now n _ (d.rest ∙ ap (drop m) e ∙ rest_cleaned m a.scratch.now),
     )
-
--- past the first call the length asked for is known
-pub clear-requires : goal.clear-requires
-clear-requires c = omega (arith, c.need-n.ensures, c.requires)

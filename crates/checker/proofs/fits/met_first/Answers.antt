@@ -6,12 +6,9 @@ use Rattle.model.specs.Layout.{to_next}
 use Rattle.model.proofs.Lists.{between_is}
 use Rattle.reads.specs.Cells.{shape_in}
 use Rattle.reads.proofs.CellLaws.{word_in}
-use Rattle.checker.proofs.FitLaws.{met_start, met_here, met_out, met_twin, met_on, met_end}
+use Rattle.checker.proofs.FitLaws.{met_here, met_out, met_twin, met_on, met_end}
 use Rattle.checker.proofs.fits.met_first.Goals.{then-not-within-via-then-not-within, then-not-within-via-else-not-within+then-same_key}
 use Rattle.checker.proofs.fits.met_first.Goals as goal
-
-pub loop-init : goal.loop-init
-loop-init c = met_start _ _ _ _ _
 
 pub returns-then-j-i : goal.returns-then-j-i
 returns-then-j-i c =

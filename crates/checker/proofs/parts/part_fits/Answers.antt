@@ -8,9 +8,6 @@ use Rattle.reads.proofs.Rows.{and_rest, and_fails}
 use Rattle.checker.proofs.PartRuns.{chains_reach, did_free, did_chains, part_stops, part_runs}
 use Rattle.checker.proofs.parts.part_fits.Goals as goal
 
-pub walk-requires : goal.walk-requires
-walk-requires g c = let p = c.requires in (record { read = p.0; scratch = p.2 }, tt)
-
 pub returns-in_default : goal.returns-in_default
 returns-in_default g c = part_stops _ _ _ _ (did_free c.requires.0 _ _ c.free_word-first.ensures c.in_default.ensures) refl
 

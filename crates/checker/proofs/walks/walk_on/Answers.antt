@@ -4,6 +4,3 @@ use Rattle.checker.proofs.walks.walk_on.Goals as goal
 
 pub walk-requires : goal.walk-requires
 walk-requires g c = let p = c.requires in (p.0, rw c.chain.ensures (suits_chain p.0.read g.P.Part.faults _ p.1))
-
-pub returns : goal.returns
-returns g c = rw (← c.chain.ensures, ← c.first_of-first.ensures) c.walk.ensures
