@@ -36,9 +36,11 @@ const FILES: [(&str, &str); 7] = [
 const STORE: [&str; 4] = ["reads", "checker", "writer", "store"];
 
 /// Words in code type that name nothing of the repository: of the language, the tools, and programs' streams.
-const FOREIGN: [&str; 18] = [
+const FOREIGN: [&str; 20] = [
     "Cargo.toml",
+    "Err",
     "Mutex",
+    "Result",
     "String",
     "apt-get",
     "cargo",
@@ -110,7 +112,7 @@ fn last_word(piece: &str) -> String {
 /// The names that a file of code declares: what follows these words, the fields of structs, the cases of an enum that have
 /// numbers, and what it hands on from others.
 fn declared_code(text: &str, names: &mut BTreeSet<String>) {
-    for word in ["fn ", "struct ", "enum ", "const ", "mod ", "type ", "as ", "pub "] {
+    for word in ["fn ", "struct ", "enum ", "trait ", "const ", "mod ", "type ", "as ", "pub "] {
         names.extend(text.match_indices(word).map(|(at, _)| first_word(&text[at + word.len()..])));
     }
     names.extend(text.lines().filter_map(numbered_case));
