@@ -77,7 +77,7 @@ fn serve<'a>(
     text: &[u8],
     file: &mut [u8],
 ) -> Result<(), Complaint<'a>> {
-    let mut out: [u8; reader::WHOLE] = disk::room();
+    let mut out = disk::output();
     let served = disk::serve(file, text, &mut out);
     let answers = &out[..served.len];
     if served.save {
@@ -93,14 +93,14 @@ fn serve<'a>(
 
 // The input first, so that FILE.new is there no longer than it must. Of a text that is longer than the room the rest makes no difference.
 pub fn run<'a>(rt: &HostRuntime, names: Names<'a>) -> Result<(), Complaint<'a>> {
-    let mut text: [u8; TEXT] = disk::room();
+    let mut text = [0u8; TEXT];
     let len = tried(
         Action::Read,
         b"standard input",
         files::read_all(&mut rt.stdin(), &mut text),
     )?;
     let held = files::lock(rt, names)?;
-    let mut file: [u8; disk::FILE] = disk::room();
+    let mut file = disk::file_room();
     match files::load(rt, names.path, &mut file) {
         Ok(size) => serve(rt, held, names, &text[..len], &mut file[..size]),
         Err(failure) => Err(failure.holding(names.new).into()),

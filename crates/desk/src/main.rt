@@ -105,11 +105,11 @@ fn run(rt: &HostRuntime, name: &[u8], count: usize, names: Names) {
 fn run_beside(rt: &HostRuntime, name: &[u8], count: usize, path: &[u8])
     requires { length path.now ≤ 4096 }
 {
-    let mut new: [u8; names::LONGER] = disk::room();
+    let mut new = names::buffer();
     let a = names::beside(path, b".new", &mut new);
-    let mut last: [u8; names::LONGER] = disk::room();
+    let mut last = names::buffer();
     let b = names::beside(path, b".last", &mut last);
-    let mut spare: [u8; names::LONGER] = disk::room();
+    let mut spare = names::buffer();
     let c = names::beside(path, b".last.new", &mut spare);
     let names = Names {
         path,

@@ -51,7 +51,7 @@ pub fn run<'a>(rt: &HostRuntime, names: Names<'a>) -> Result<(), Complaint<'a>> 
         upper: argument_or(rt, 5, &mut upper, b"4"),
         lower: argument_or(rt, 6, &mut lower, b"2"),
     };
-    let mut file: [u8; disk::FILE] = disk::room();
+    let mut file = disk::file_room();
     let mut text = [0u8; texts::LINE];
     let made = opens::fresh(fields, &mut file, &mut text);
     let said = &text[..made.said];

@@ -18,7 +18,7 @@ fn show<'a>(rt: &HostRuntime, text: &[u8], path: &'a [u8]) -> Result<(), Failure
 
 // desk check FILE. That the file is no store is said even where the text can't be written.
 pub fn run_check<'a>(rt: &HostRuntime, path: &'a [u8]) -> Result<(), Complaint<'a>> {
-    let mut file: [u8; disk::FILE] = disk::room();
+    let mut file = disk::file_room();
     let len = files::load(rt, path, &mut file)?;
     let mut text = [0u8; looks::TEXT];
     let looked = looks::look(&file[..len], &mut text);
@@ -49,9 +49,9 @@ fn show_last<'a>(
 
 // desk last FILE: the saved answers in FILE.last, against the file's bytes.
 pub fn run_last<'a>(rt: &HostRuntime, names: Names<'a>) -> Result<(), Complaint<'a>> {
-    let mut file: [u8; disk::FILE] = disk::room();
+    let mut file = disk::file_room();
     let len = files::load(rt, names.path, &mut file)?;
-    let mut last: [u8; lasts::ROOM] = disk::room();
+    let mut last = lasts::room();
     let last_len = files::load_last(rt, names, &mut last)?;
     show_last(rt, names.path, &file[..len], &last[..last_len])
 }
@@ -98,7 +98,7 @@ fn gather(rt: &HostRuntime, room: &mut [u8], sizes: &mut [u32]) -> Option<usize>
 
 // The report over these files.
 fn report(rt: &HostRuntime, bytes: &[u8], sizes: &[u32]) -> Result<(), Complaint<'static>> {
-    let mut out: [u8; runs::TEXT] = disk::room();
+    let mut out = runs::output();
     match runs::report_files(bytes, sizes, &mut out) {
         Ok(len) => Ok(show(rt, &out[..len as usize], b"the files")?),
         Err(_) => Err(Complaint::NoReport),
@@ -109,7 +109,7 @@ fn report(rt: &HostRuntime, bytes: &[u8], sizes: &[u32]) -> Result<(), Complaint
 pub fn run_report(rt: &HostRuntime, count: usize) -> Result<(), Complaint<'static>>
     requires { count ≤ 8 }
 {
-    let mut room: [u8; runs::ROOM] = disk::room();
+    let mut room = runs::files_room();
     let mut sizes = [0u32; runs::FILES];
     match gather(rt, &mut room, &mut sizes[..count]) {
         Some(len) => report(rt, &room[..len], &sizes[..count]),

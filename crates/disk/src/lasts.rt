@@ -6,7 +6,7 @@ ghost use Rattle.disk.specs.Last.{head_of, head_size, belongs as Last·belongs};
 pub const HEAD: usize = 4;
 
 // The bytes of the longest, the head, a file and all that is written for a job, and one byte more.
-pub const ROOM: usize = HEAD + crate::BYTES + reader::WHOLE + 1;
+const LAST: usize = HEAD + crate::BYTES + reader::WHOLE + 1;
 
 // How many words a file has, in four bytes, the lowest first.
 pub fn head(file: &[u8]) -> [u8; HEAD]
@@ -29,4 +29,11 @@ pub fn answers_at(file: &[u8], last: &[u8]) -> usize
     ensures { (result ≡ head_size + length file.now) × (result ≤ length last.now) }
 {
     HEAD + file.len()
+}
+
+// Room for saved answers, and one byte more.
+pub fn room() -> [u8; LAST]
+    ensures { 78990 ≡ length result }
+{
+    crate::room()
 }

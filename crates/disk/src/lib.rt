@@ -20,7 +20,7 @@ const WORDS: usize = store::MOST_WORDS;
 pub const BYTES: usize = 4 * WORDS;
 
 // Of the bytes one more, which tells a file that is too long.
-pub const FILE: usize = BYTES + 1;
+const FILE: usize = BYTES + 1;
 
 // The bytes of the shortest store, and of a fault more.
 const LEAST_BYTES: usize = 4 * (store::CARDS_AT + store::CARD_WIDTH + store::FAULT_WIDTH);
@@ -36,14 +36,28 @@ pub fn sized(n: usize) -> bool
 
 // Room for so many elements. The `ensures` gives only the length, so that no proof counts the zeros.
 // Kept: a rule of the project, fixed memory: docs/RULES.md, "The stack", has `desk` within its stack; so rooms are arrays, and a length beside them.
-pub fn room<T: Copy + Default, const N: usize>() -> [T; N]
+fn room<T: Copy + Default, const N: usize>() -> [T; N]
     ensures { N ≡ length result }
 {
     [T::default(); N]
 }
 
+// Room for all that is written for a job.
+pub fn output() -> [u8; reader::WHOLE]
+    ensures { whole_size ≡ length result }
+{
+    room()
+}
+
+// Room for a file, and one byte more.
+pub fn file_room() -> [u8; FILE]
+    ensures { most_bytes + 1 ≡ length result }
+{
+    room()
+}
+
 // How a job ended, how long its text is, and whether the file has changed.
-// Kept: the C interface: a job's number comes in `job::Done`, which C reads, and `reader` passes it on.
+// Kept: a Result is no plainer: a job that has stopped has its number, and a text and a changed file all the same.
 #[derive(Clone, Copy)]
 pub struct Outcome {
     pub number: u32,

@@ -1,5 +1,5 @@
 // The names beside a file's: its own with an ending, and the folder that it stands in.
-ghost use Rattle.std.specs.Prelude.{◌+◌, ◌≤◌, length};
+ghost use Rattle.std.specs.Prelude.{◌≡◌, ◌+◌, ◌≤◌, length};
 ghost use Rattle.disk.specs.Names.{Folder, Named};
 
 use text::sink::{Writer, put_text};
@@ -8,6 +8,13 @@ use text::sink::{Writer, put_text};
 pub const PATH: usize = 4096;
 
 pub const LONGER: usize = PATH + 9;
+
+// Room for a name.
+pub fn buffer() -> [u8; LONGER]
+    ensures { 4105 ≡ length result }
+{
+    crate::room()
+}
 
 // A file's path with an ending, at the front; its length.
 pub fn beside(path: &[u8], ending: &[u8], out: &mut [u8]) -> usize

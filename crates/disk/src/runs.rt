@@ -15,10 +15,24 @@ pub const FILES: usize = 8;
 const ALL_WORDS: usize = FILES * WORDS;
 
 // Of the bytes one more, which tells that the last file is too long.
-pub const ROOM: usize = 4 * ALL_WORDS + 1;
+const ALL_FILES: usize = 4 * ALL_WORDS + 1;
 
 // The longest text: 55 bytes for each of 9,999 codes, and 44 for the totals.
-pub const TEXT: usize = 55 * 9999 + 44;
+const TEXT: usize = 55 * 9999 + 44;
+
+// Room for the bytes of all files, and one byte more, which tells that the last is too long.
+pub fn files_room() -> [u8; ALL_FILES]
+    ensures { 500737 ≡ length result }
+{
+    room()
+}
+
+// Room for the text of any report.
+pub fn output() -> [u8; TEXT]
+    ensures { 549989 ≡ length result }
+{
+    room()
+}
 
 // Whether each size is one that a store's file can have, and they add up.
 fn sizes_ok(whole: usize, sizes: &[u32]) -> bool

@@ -1,5 +1,5 @@
-// The plans of the four calls on a sound store: each reads the header once, and gives the answer of a call that is refused, or the call's whole
-// answer with the header and the places that the change will touch, before a word is changed.
+// The plans of the four calls on a store known to be sound: each gives the answer of a call that is refused, or the call's whole answer with the
+// header and the places that the change will touch, before a word is changed.
 ghost use Rattle.std.specs.Prelude.{◌≡◌, true, ◌+◌, ◌-◌, ◌<◌, length};
 ghost use Rattle.model.specs.Serial.{valid_serial};
 ghost use Rattle.model.specs.Model.{size, bucket};
@@ -139,7 +139,7 @@ pub fn plan_enter(store: &Sound, serial: [u8; 16], len: usize) -> Result<Plan, A
 }
 
 // File: refused by BadSerial, by BadFault for day and code, by NotHeld where no card has the serial, by FaultsFull where no fault cell is free.
-// Kept: the C interface has day and code as two numbers, and so have all above it.
+// Kept: the C interface has day and code as two numbers, and the entry point hands them on as it has them.
 pub fn plan_file(
     store: &Sound,
     serial: [u8; 16],
