@@ -92,6 +92,7 @@ fn serve<'a>(
 }
 
 // The input first, so that FILE.new is there no longer than it must. Of a text that is longer than the room the rest makes no difference.
+#[inline(never)]
 pub fn run<'a>(rt: &HostRuntime, names: Names<'a>) -> Result<(), Complaint<'a>> {
     let mut text = [0u8; TEXT];
     let len = tried(

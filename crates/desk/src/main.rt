@@ -75,7 +75,7 @@ impl Command {
         }
     }
 
-    // Does what is asked with so many words.
+    // Does what is asked with so many words. Each command is out of line, so that a run takes the stack of its own command alone.
     fn run<'a>(self, rt: &HostRuntime, count: usize, names: Names<'a>) -> Result<(), Complaint<'a>>
         requires { self ≡ Command.Report → (3 ≤ count) × (count ≤ 10) }
     {

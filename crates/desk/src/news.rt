@@ -40,6 +40,7 @@ fn make<'a>(
 }
 
 // The bounds are 4 and 2 where none are given.
+#[inline(never)]
 pub fn run<'a>(rt: &HostRuntime, names: Names<'a>) -> Result<(), Complaint<'a>> {
     let mut cards = [0u8; FIELD];
     let mut faults = [0u8; FIELD];

@@ -17,6 +17,7 @@ fn show<'a>(rt: &HostRuntime, text: &[u8], path: &'a [u8]) -> Result<(), Failure
 }
 
 // desk check FILE. That the file is no store is said even where the text can't be written.
+#[inline(never)]
 pub fn run_check<'a>(rt: &HostRuntime, path: &'a [u8]) -> Result<(), Complaint<'a>> {
     let mut file = disk::file_room();
     let len = files::load(rt, path, &mut file)?;
@@ -48,6 +49,7 @@ fn show_last<'a>(
 }
 
 // desk last FILE: the saved answers in FILE.last, against the file's bytes.
+#[inline(never)]
 pub fn run_last<'a>(rt: &HostRuntime, names: Names<'a>) -> Result<(), Complaint<'a>> {
     let mut file = disk::file_room();
     let len = files::load(rt, names.path, &mut file)?;
@@ -106,6 +108,7 @@ fn report(rt: &HostRuntime, bytes: &[u8], sizes: &[u32]) -> Result<(), Complaint
 }
 
 // desk report FILE.., so many of them, one to eight
+#[inline(never)]
 pub fn run_report(rt: &HostRuntime, count: usize) -> Result<(), Complaint<'static>>
     requires { count ≤ 8 }
 {

@@ -4,11 +4,19 @@ use script::calls::{Call, Kind};
 use script::lines::Line;
 use script::serials::Serial;
 
-// The room is enough for every fault of a store.
+// A call that writes into the room, which is enough for every fault of a store.
+fn number_with_room(words: &mut [u32], scratch: &mut [u8], call: Call) -> u32 {
+    let mut room = [0u32; 4096];
+    call.make(words, scratch, &mut room).number
+}
+
+// Only what writes into a room gets one: to clear it takes longer than a call on a small store.
 fn number_of(words: &mut [u32], call: Call) -> u32 {
     let mut scratch = [0u8; store::NEED];
-    let mut room = [0u32; 4096];
-    call.make(words, &mut scratch, &mut room).number
+    match call.kind {
+        Kind::Enter | Kind::File => call.make(words, &mut scratch, &mut []).number,
+        Kind::Show | Kind::Withdraw => number_with_room(words, &mut scratch, call),
+    }
 }
 
 // A line of one call.

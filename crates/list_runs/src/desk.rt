@@ -7,20 +7,27 @@ use script::lines::Line;
 use script::words;
 use std::io;
 
-// The buffers, and what is lent of them.
+// The words of the run, the lengths in the list, where the store that joined last begins, the bytes of scratch and of output, and what
+// these hold before a report.
+#[derive(Clone, Copy)]
+pub struct Desk {
+    pub run: u32,
+    pub listed: u32,
+    pub last: u32,
+    pub scratch: u32,
+    pub out: u32,
+    pub filled: Steps,
+}
+
+// The buffers, and what the desk says of them.
 // Kept: what may not change, that a line `C` copies words that stand behind the run's end, so that the run is no slice of its own.
 #[derive(Drop)]
-pub struct Desk<'a> {
+pub struct Buffers<'a> {
     words: &'a mut [u32],
     lengths: &'a mut [u32],
     scratch: &'a mut [u8],
     out: &'a mut [u8],
-    run: u32,
-    listed: u32,
-    last: u32,
-    scratch_len: u32,
-    out_len: u32,
-    filled: Steps,
+    desk: Desk,
 }
 
 // The words of a store with such limits.
@@ -28,24 +35,27 @@ fn length_for(terms: Terms) -> u32 {
     288 + 9 * (terms.cards % 1025) + 3 * (terms.faults % 2049)
 }
 
-impl<'a> Desk<'a> {
+impl<'a> Buffers<'a> {
     pub fn new(
         words: &'a mut [u32],
         lengths: &'a mut [u32],
         scratch: &'a mut [u8],
         out: &'a mut [u8],
-    ) -> Desk<'a> {
-        Desk {
+    ) -> Buffers<'a> {
+        let desk = Desk {
+            run: 0,
+            listed: 0,
+            last: 0,
+            scratch: 0,
+            out: 0,
+            filled: Steps { from: 0, step: 0 },
+        };
+        Buffers {
             words,
             lengths,
             scratch,
             out,
-            run: 0,
-            listed: 0,
-            last: 0,
-            scratch_len: 0,
-            out_len: 0,
-            filled: Steps { from: 0, step: 0 },
+            desk,
         }
     }
 
@@ -66,10 +76,10 @@ impl<'a> Desk<'a> {
             b'M' => self.resize_list(line.number(1)),
             b'P' => lays::patch(self.words, line.number(2), Series::of_line(line)),
             b'L' => words::set(self.lengths, line.number(1) as usize, line.number(2)),
-            b'B' => self.scratch_len = line.number(1),
-            b'T' => self.out_len = line.number(1),
+            b'B' => self.desk.scratch = line.number(1),
+            b'T' => self.desk.out = line.number(1),
             b'V' => {
-                self.filled = Steps {
+                self.desk.filled = Steps {
                     from: line.number(1),
                     step: line.number(2),
                 }
@@ -94,39 +104,39 @@ impl<'a> Desk<'a> {
     }
 
     fn new_run(&mut self) {
-        self.run = 0;
-        self.listed = 0;
-        self.last = 0;
+        self.desk.run = 0;
+        self.desk.listed = 0;
+        self.desk.last = 0;
     }
 
     // A store of so many words joins the run, and its length the list.
     fn join(&mut self, len: u32) {
-        words::set(self.lengths, self.listed as usize, len);
-        self.last = self.run;
-        self.run = self.run.wrapping_add(len);
-        self.listed = self.listed.wrapping_add(1);
+        words::set(self.lengths, self.desk.listed as usize, len);
+        self.desk.last = self.desk.run;
+        self.desk.run = self.desk.run.wrapping_add(len);
+        self.desk.listed = self.desk.listed.wrapping_add(1);
     }
 
     fn copy(&mut self, line: Line) {
         let len = line.number(2);
-        lays::copy(self.words, line.number(1), self.run, len);
+        lays::copy(self.words, line.number(1), self.desk.run, len);
         self.join(len);
     }
 
     fn resize_run(&mut self, n: u32) {
-        lays::clear(self.words, self.run, n);
-        self.run = n;
+        lays::clear(self.words, self.desk.run, n);
+        self.desk.run = n;
     }
 
     fn resize_list(&mut self, n: u32) {
-        lays::clear(self.lengths, self.listed, n);
-        self.listed = n;
+        lays::clear(self.lengths, self.desk.listed, n);
+        self.desk.listed = n;
     }
 
     fn open(&mut self, rt: &impl Print, line: Line) -> io::Result<()> {
         let terms = Terms::of_line(line);
         let len = length_for(terms);
-        let words = lays::part(self.words, self.run, self.run.wrapping_add(len));
+        let words = lays::part(self.words, self.desk.run, self.desk.run.wrapping_add(len));
         let number = terms.open(words);
         self.join(len);
         print!(rt; ": {number}")
@@ -134,22 +144,22 @@ impl<'a> Desk<'a> {
 
     // Calls on the store that joined last.
     fn one(&mut self, rt: &impl Print, line: Line, kind: Kind) -> io::Result<()> {
-        let words = lays::part(self.words, self.last, self.run);
+        let words = lays::part(self.words, self.desk.last, self.desk.run);
         let number = asks::one(line, kind, words);
         print!(rt; ": {number}")
     }
 
     fn many(&mut self, rt: &impl Print, line: Line, kind: Kind) -> io::Result<()> {
-        let words = lays::part(self.words, self.last, self.run);
+        let words = lays::part(self.words, self.desk.last, self.desk.run);
         let done = asks::many(line, kind, words);
         print!(rt; ": {done}")
     }
 
     fn report(&mut self, rt: &impl Print) -> io::Result<()> {
-        let words = lays::part(self.words, 0, self.run);
-        let lengths = lays::part(self.lengths, 0, self.listed);
-        let scratch = lays::part(self.scratch, 0, self.scratch_len);
-        let out = lays::part(self.out, 0, self.out_len);
-        reports::make(rt, words, lengths, scratch, out, self.filled)
+        let words = lays::part(self.words, 0, self.desk.run);
+        let lengths = lays::part(self.lengths, 0, self.desk.listed);
+        let scratch = lays::part(self.scratch, 0, self.desk.scratch);
+        let out = lays::part(self.out, 0, self.desk.out);
+        reports::make(rt, words, lengths, scratch, out, self.desk.filled)
     }
 }

@@ -32,7 +32,7 @@ mod lays; // lays.rt: words and lengths laid by hand
 mod numbered; // numbered.rt: cards by number, and days and codes by steps
 mod reports; // reports.rt: one report, and what it left
 
-use desk::Desk;
+use desk::Buffers;
 use script::input;
 use script::lines::Line;
 use std::io;
@@ -45,9 +45,9 @@ fn main(rt: HostRuntime) -> io::Result<()> {
     let mut lengths = [0u32; 16];
     let mut scratch = [0u8; 1000];
     let mut out = [0u8; 300000];
-    let mut desk = Desk::new(&mut words, &mut lengths, &mut scratch, &mut out);
+    let mut buffers = Buffers::new(&mut words, &mut lengths, &mut scratch, &mut out);
     for piece in script[..n].split_inclusive(|b| *b == b'\n') {
-        desk.turn(&rt, Line::new(piece))?;
+        buffers.turn(&rt, Line::new(piece))?;
     }
     Ok(())
 }

@@ -117,15 +117,14 @@ pub fn answer_on(words: &mut [u32], input: &[u8], out: &mut [u8]) -> Answered
 pub struct Text {
     pub bytes: [u8; WHOLE],
     pub len: usize,
-    ghost within: { len ≤ length bytes },
 }
 
 impl Text {
-    // The text alone.
+    // The text alone. A length past the array, which `answer` never gives, counts as all of it.
     pub fn as_slice(&self) -> &[u8]
         ensures { result.now ≡ take self.now.len self.now.bytes }
     {
-        &self.bytes[..self.len]
+        &self.bytes[..self.len.min(WHOLE)]
     }
 }
 

@@ -2,6 +2,7 @@ pub mod ScanLaws
 pub mod SearchLaws
 pub mod FindLaws
 pub mod ListingLaws
+pub mod NumberLaws
 pub mod ShowLaws
 pub mod OneOutcome
 pub mod ProgramDemands
